@@ -1,0 +1,21 @@
+-- Document 01 as definitions, in its order. What a reader must believe is here; what is proved of it is in proofs/.
+pub mod Notation
+pub mod Word
+pub mod Topology
+pub mod Channel
+pub mod State
+pub mod Layout
+pub mod Sound
+pub mod Write
+pub mod Change
+pub mod Receive
+pub mod Step
+pub mod Start
+pub mod Outcome
+pub mod Record
+pub mod Program
+pub mod History
+pub mod Run
+pub mod Claim
+pub mod Order
+pub mod Cases

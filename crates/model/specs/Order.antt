@@ -1,0 +1,20 @@
+-- Document 01: "Order for steps: 15, 6, 8, 12, 13, 10, 14, 9, 11." As a list, and what it is for a step's checks to come in it.
+use Prim.Native.Nat.{ℕ}
+use mathlib.Core.Bool.{Bool, true, false, cond}
+use mathlib.Core.List.{List, [], _∷_, map}
+use lib.Dec.{eqb}
+use Rattle.model.specs.Notation.{Check}
+use Rattle.model.specs.Outcome.{refusalNumber}
+
+unfoldable pub documentOrder : List ℕ
+documentOrder = 15 ∷ 6 ∷ 8 ∷ 12 ∷ 13 ∷ 10 ∷ 14 ∷ 9 ∷ 11 ∷ []
+
+-- whether xs is ys with some left out
+unfoldable pub inOrder : List ℕ → List ℕ → Bool
+inOrder [] ys = true
+inOrder (x ∷ xs) [] = false
+inOrder (x ∷ xs) (y ∷ ys) = cond (eqb x y) (inOrder xs ys) (inOrder (x ∷ xs) ys)
+
+-- the refusal numbers of these checks
+unfoldable pub checkNumbers : List Check → List ℕ
+checkNumbers checks = map (λ c. refusalNumber (c .refusal)) checks

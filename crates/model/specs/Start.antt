@@ -1,0 +1,78 @@
+-- Document 01: setup (initialize) and restart (recover). "Setup and restart: 1 to 6, then 16."; a refusal gives only its number, here beside the
+-- blank state, and leaves the store as it was.
+use Prim.Native.Nat.{ℕ}
+use mathlib.Core.Bool.{Bool, false, cond, not, _&&_}
+use mathlib.Core.List.{List, [], _∷_, _++_}
+use mathlib.Core.Option.{Option, none, some}
+use lib.ListN.{length}
+use lib.Dec.{leb, ltb}
+use Rattle.model.specs.declared.Topology.{Topology}
+use Rattle.model.specs.declared.Entry.{Entry}
+use Rattle.model.specs.declared.Start.{Start}
+use Rattle.model.specs.declared.Start.the-variants.{Ready, Refused}
+use Rattle.model.specs.declared.Refusal.{Refusal}
+use Rattle.model.specs.declared.Refusal.the-variants.{ShortStore, BadCount}
+use Rattle.model.specs.Notation.{tabulate, concatBelow, allBelow, _⇒_, firstRefusal, orElse}
+use Rattle.model.specs.Word.{replay}
+use Rattle.model.specs.Topology.{topologyRefusal, hasProcess, hasChannel}
+use Rattle.model.specs.Channel.{messages}
+use Rattle.model.specs.Layout.{storeCells, cell, lineCell, checkpointCell, messageLog, channelLog, places, countCell, logged}
+use Rattle.model.specs.State.{GlobalState, idleState, blankState}
+use Rattle.model.specs.Write.{Write, writeAll, commitWrites}
+
+-- what initialize and recover answer, and what they leave in the store
+pub record Begun : Type 0 where
+  pub start : Start
+  pub state : GlobalState
+  pub store : List ℕ
+
+unfoldable pub begunOr : Option Refusal → GlobalState → List ℕ → List ℕ → Begun
+begunOr none s after before = record { start = Ready; state = s; store = after }
+begunOr (some r) s after before = record { start = Refused r; state = blankState; store = before }
+
+-- 1 to 5, then "6 store under 3,265 cells."
+unfoldable pub initializeRefusal : Topology → ℕ → Option Refusal
+initializeRefusal T cells = orElse (topologyRefusal T) (firstRefusal ((ltb cells storeCells ⇒ ShortStore) ∷ []))
+
+-- "Setup writes copy 0 and counts 0 for the planned boards and counts 0 for the planned wires in half 0, then 0 into cell 0"
+unfoldable pub initializeWrites : Topology → List Write
+initializeWrites T =
+    concatBelow (T .processes)
+    (λ p. record { cell = checkpointCell 0 p; value = 0 } ∷ record { cell = countCell 0 (messageLog p); value = 0 } ∷ [])
+    ++ tabulate (T .channels) (λ c. record { cell = countCell 0 (channelLog c); value = 0 })
+    ++ commitWrites 0
+
+-- "It answers the idle state at line 0, words and tags 0, wires empty."
+unfoldable pub initialize : Topology → List ℕ → Begun
+initialize T store =
+    begunOr (initializeRefusal T (length store)) (idleState T 0 (λ p. 0) (λ c. [])) (writeAll store (initializeWrites T)) store
+
+-- the line that the store says was finished last
+unfoldable pub storedLine : List ℕ → ℕ
+storedLine store = cell store lineCell
+
+-- "a planned count in half k mod 2 is over 64 or 8"
+unfoldable pub countsFit : Topology → List ℕ → Bool
+countsFit T store =
+    allBelow (T .processes) (λ p. leb (cell store (countCell (storedLine store) (messageLog p))) (places (messageLog p)))
+    && allBelow (T .channels) (λ c. leb (cell store (countCell (storedLine store) (channelLog c))) (places (channelLog c)))
+
+unfoldable pub recoverRefusal : Topology → List ℕ → Option Refusal
+recoverRefusal T store =
+    orElse (initializeRefusal T (length store)) (firstRefusal ((not (countsFit T store) ⇒ BadCount) ∷ []))
+
+-- "words by replaying board logs on copies"
+unfoldable pub recoveredWord : Topology → List ℕ → ℕ → ℕ
+recoveredWord T store p =
+    cond (hasProcess T p)
+    (replay (cell store (checkpointCell (storedLine store) p)) (logged store (storedLine store) (messageLog p)))
+    0
+
+-- "wires filled from wire logs", "tags 0 on boards and messages"
+unfoldable pub recoveredChannel : Topology → List ℕ → ℕ → List Entry
+recoveredChannel T store c = cond (hasChannel T c) (messages false (logged store (storedLine store) (channelLog c))) []
+
+-- "Restart only reads: from plan and store it gives an idle state at line k"
+unfoldable pub recover : Topology → List ℕ → Begun
+recover T store =
+    begunOr (recoverRefusal T store) (idleState T (storedLine store) (recoveredWord T store) (recoveredChannel T store)) store store

@@ -1,0 +1,92 @@
+-- Document 01's state, with functions of the index for its arrays, and how a State of the code is seen as one.
+use Prim.Native.Nat.{ℕ}
+use mathlib.Core.Bool.{Bool, false}
+use mathlib.Core.List.{List, []}
+use lib.ListN.{getD, replicate}
+use Rattle.model.specs.declared.State.{State}
+use Rattle.model.specs.declared.Flags.{Flags}
+use Rattle.model.specs.declared.Counts.{Counts}
+use Rattle.model.specs.declared.Round.{Round}
+use Rattle.model.specs.declared.Phase.the-variants.{Idle}
+use Rattle.model.specs.declared.Topology.{Topology}
+use Rattle.model.specs.declared.Channel.{Channel}
+use Rattle.model.specs.declared.Entry.{Entry}
+use Rattle.model.specs.Channel.{entries}
+
+-- what the round under way has done: marked boards, closed wires, wires with their note put
+pub record Progress : Type 0 where
+  pub checkpointed : ℕ → Bool
+  pub closed : ℕ → Bool
+  pub sent : ℕ → Bool
+
+-- "The state holds every log's count"
+pub record LogCounts : Type 0 where
+  pub messages : ℕ → ℕ
+  pub channels : ℕ → ℕ
+
+-- the standing of the head: plan, round (its k and its phase), each board's word and tag, each wire's entries
+pub record GlobalState : Type 0 where
+  pub topology : Topology
+  pub round : Round
+  pub word : ℕ → ℕ
+  pub tag : ℕ → Bool
+  pub channel : ℕ → List Entry
+  pub progress : Progress
+  pub counts : LogCounts
+
+-- "no board marked, no wire closed and no note put"
+unfoldable pub noProgress : Progress
+noProgress = record { checkpointed = λ p. false; closed = λ c. false; sent = λ c. false }
+
+unfoldable pub noCounts : LogCounts
+noCounts = record { messages = λ p. 0; channels = λ c. 0 }
+
+-- an idle state at line k, with tags 0, no progress and no log counts: what setup and restart answer
+unfoldable pub idleState : Topology → ℕ → (ℕ → ℕ) → (ℕ → List Entry) → GlobalState
+idleState T k word channel =
+    record {
+      topology = T;
+      round = record { line = k; phase = Idle };
+      word = word;
+      tag = λ p. false;
+      channel = channel;
+      progress = noProgress;
+      counts = noCounts;
+    }
+
+-- no topology: no process, no channel
+unfoldable pub blankTopology : Topology
+blankTopology = record { processes = 0; channels = 0; from = replicate 64 0; to = replicate 64 0 }
+
+-- what a refused setup or restart puts in the state's place
+unfoldable pub blankState : GlobalState
+blankState = idleState blankTopology 0 (λ p. 0) (λ c. [])
+
+unfoldable pub viewProgress : Flags → Progress
+viewProgress f =
+    record {
+      checkpointed = λ p. getD (f .checkpointed) p false;
+      closed = λ c. getD (f .closed) c false;
+      sent = λ c. getD (f .sent) c false;
+    }
+
+unfoldable pub viewCounts : Counts → LogCounts
+viewCounts n = record { messages = λ p. getD (n .messages) p 0; channels = λ c. getD (n .channels) c 0 }
+
+-- a channel with no entry, for an index past the array
+unfoldable pub emptyChannel : Channel
+emptyChannel = record { bodies = replicate 8 0; kinds = replicate 8 0; count = 0 }
+
+-- How a state of the code is seen. Nothing is hidden but the unused places of channels, and by which of the kinds over 1, and beside which body, a
+-- marker is written (Channel.entryOf).
+unfoldable pub view : State → GlobalState
+view s =
+    record {
+      topology = s .topology;
+      round = s .round;
+      word = λ p. getD (s .words) p 0;
+      tag = λ p. getD (s .tags) p false;
+      channel = λ c. entries (getD (s .channels) c emptyChannel);
+      progress = viewProgress (s .flags);
+      counts = viewCounts (s .counts);
+    }

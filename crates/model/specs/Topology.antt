@@ -1,0 +1,52 @@
+-- Document 01's plan, and "The plan's author": refusals 1 to 5.
+use Prim.Native.Nat.{ℕ}
+use mathlib.Core.Bool.{Bool, not, _&&_}
+use mathlib.Core.List.{List, [], _∷_}
+use mathlib.Core.Option.{Option}
+use lib.ListN.{getD}
+use lib.Dec.{leb, ltb, eqb}
+use Rattle.model.specs.declared.Topology.{Topology}
+use Rattle.model.specs.declared.Refusal.{Refusal}
+use Rattle.model.specs.declared.Refusal.the-variants.{ProcessCount, ChannelCount, UnknownEnd, SelfChannel, DoubledChannel}
+use Rattle.model.specs.Notation.{allBelow, Check, _⇒_, firstRefusal, firstBelow, orElse}
+
+-- "Each runs from one board to another"
+unfoldable pub sender : Topology → ℕ → ℕ
+sender T c = getD (T .from) c 0
+
+unfoldable pub receiver : Topology → ℕ → ℕ
+receiver T c = getD (T .to) c 0
+
+-- "no such board or wire", by the plan
+unfoldable pub hasProcess : Topology → ℕ → Bool
+hasProcess T p = ltb p (T .processes)
+
+unfoldable pub hasChannel : Topology → ℕ → Bool
+hasChannel T c = ltb c (T .channels)
+
+-- two channels with the same ends in the same direction
+unfoldable pub sameEnds : Topology → ℕ → ℕ → Bool
+sameEnds T d c = eqb (sender T d) (sender T c) && eqb (receiver T d) (receiver T c)
+
+-- "Then per wire: 3 an end not in the plan; 4 both ends one board; 5 an earlier wire has the same ends in the same direction."
+abbrev pub channelChecks : Topology → ℕ → List Check
+channelChecks T c =
+    (not (hasProcess T (sender T c) && hasProcess T (receiver T c)) ⇒ UnknownEnd)
+    ∷ (eqb (sender T c) (receiver T c) ⇒ SelfChannel)
+    ∷ (not (allBelow c (λ d. not (sameEnds T d c))) ⇒ DoubledChannel)
+    ∷ []
+
+unfoldable pub channelRefusal : Topology → ℕ → Option Refusal
+channelRefusal T c = firstRefusal (channelChecks T c)
+
+-- "1 boards not 1 to 16. 2 over 64 wires."
+abbrev pub sizeChecks : Topology → List Check
+sizeChecks T =
+    (not (leb 1 (T .processes) && leb (T .processes) 16) ⇒ ProcessCount) ∷ (ltb 64 (T .channels) ⇒ ChannelCount) ∷ []
+
+unfoldable pub sizeRefusal : Topology → Option Refusal
+sizeRefusal T = firstRefusal (sizeChecks T)
+
+-- 1 and 2, then 3 to 5 channel by channel: the first channel that offends decides
+unfoldable pub topologyRefusal : Topology → Option Refusal
+topologyRefusal T = orElse (sizeRefusal T) (firstBelow (T .channels) (channelRefusal T))

@@ -1,0 +1,128 @@
+// The types that every crate here shares. Their meaning is in specs/: State.antt sees a State as an abstract
+// global state, and everything else is said of that.
+
+// Document 01's plan: how many processes (boards) and channels (wires) there are, and the two ends of each channel.
+pub struct Topology {
+    pub processes: u8,
+    pub channels: u8,
+    pub from: [u8; 64],
+    pub to: [u8; 64],
+}
+
+// Document 01's round: idle, copying (the physical phase, with the next process to checkpoint), marking (the
+// logical phase).
+pub enum Phase {
+    Idle,
+    Physical(u8),
+    Logical,
+}
+
+// The last recovery line finished (document 01's k), and the phase of the round after it.
+pub struct Round {
+    pub line: u32,
+    pub phase: Phase,
+}
+
+// What a channel holds: a message with the tag its sender had, or a marker (document 01's note).
+pub enum Entry {
+    Message { body: u32, tag: bool },
+    Marker,
+}
+
+// A channel's 8 places, first in first out from place 0. Kind 0 is a message tagged 0, kind 1 a message tagged 1,
+// and any other kind a marker. Places from count on are unused.
+pub struct Channel {
+    pub bodies: [u32; 8],
+    pub kinds: [u8; 8],
+    pub count: u8,
+}
+
+// What the round under way has done: the processes with a logical checkpoint (marked boards), the channels that
+// are closed, and those on which the marker was sent (note put).
+pub struct Flags {
+    pub checkpointed: [bool; 16],
+    pub closed: [bool; 64],
+    pub sent: [bool; 64],
+}
+
+// How many entries the message log of each process and the channel log of each channel has.
+pub struct Counts {
+    pub messages: [u8; 16],
+    pub channels: [u8; 64],
+}
+
+pub struct State {
+    pub topology: Topology,
+    pub round: Round,
+    pub words: [u32; 16],
+    pub tags: [bool; 16],
+    pub channels: [Channel; 64],
+    pub flags: Flags,
+    pub counts: Counts,
+}
+
+// Steps 1 to 8 of document 01, in its order: send, take, begin, copy, mark, note, finish, give up.
+pub enum Step {
+    Send { channel: u8, body: u32 },
+    Receive { channel: u8 },
+    Begin,
+    PhysicalCheckpoint { process: u8 },
+    LogicalCheckpoint { process: u8 },
+    SendMarker { channel: u8 },
+    Commit,
+    Abort,
+}
+
+// A record's content: a step, or kind 9, the recover (document 01's restart).
+pub enum Record {
+    Call(Step),
+    Recover,
+}
+
+// Document 01's refusals, in the order of their numbers, 1 to 16.
+pub enum Refusal {
+    ProcessCount,
+    ChannelCount,
+    UnknownEnd,
+    SelfChannel,
+    DoubledChannel,
+    ShortStore,
+    Malformed,
+    NoSuch,
+    ChannelFull,
+    ChannelEmpty,
+    LogFull,
+    NotNow,
+    LastLine,
+    MarkerOnClosed,
+    Unsound,
+    BadCount,
+}
+
+// What a step answers: done; a message received (took), with its body; a marker received (note); refused; or the
+// power was lost (cut).
+pub enum Outcome {
+    Done,
+    Received(u32),
+    ReceivedMarker,
+    Refused(Refusal),
+    PowerLost,
+}
+
+// A step's answer: its outcome, how many writes it made, and the state after it.
+pub struct Answer {
+    pub outcome: Outcome,
+    pub made: u32,
+    pub state: State,
+}
+
+// What initialize and recover (document 01's setup and restart) answer.
+pub enum Start {
+    Ready,
+    Refused(Refusal),
+}
+
+pub struct Started {
+    pub start: Start,
+    pub state: State,
+}
