@@ -1,0 +1,139 @@
+-- Laws of the histories: one more event at the end, what stands before a mark, and where the n-th send on a channel stands.
+use Prim.Native.Nat.{ℕ, zero, suc, _<_, _≤_, zero-le}
+use mathlib.Core.Path.{_≡_, refl, sym, ap, _∙_}
+use mathlib.Core.Bool.{Bool, true, false, cond}
+use mathlib.Core.List.{List, [], _∷_, _++_, append-nil}
+use mathlib.Core.Option.{Option, none, some}
+use lib.ListN.{length, take}
+use lib.Seq.{take-length}
+use borrow.Author.Tests.{eq-eqb, ne-eqb}
+use native.Mathlib.Omega.{arith}
+use Rattle.model.specs.Word.{enter, replay}
+use Rattle.model.specs.History.{Event, Direction, sent, received, isOn, sameDirection, bodiesOn, receivedBodies, placeOfSend}
+
+-- the word that the receives of a history make from 0
+unfoldable pub wordOf : List Event → ℕ
+wordOf es = replay 0 (receivedBodies es)
+
+-- the part of a history before its mark of the round; all of it where there is none
+unfoldable pub before : Option ℕ → List Event → List Event
+before none es = es
+before (some m) es = take m es
+
+-- a mark within a history of this length; whether there is one
+pub data Marked (n : ℕ) : Bool → Option ℕ → Type 0 where
+  unmarked : Marked n false none
+  marked : {m : ℕ} → m ≤ n → Marked n true (some m)
+
+pub bodiesOn-append : (d : Direction) (c : ℕ) (xs ys : List Event) → bodiesOn d c (xs ++ ys) ≡ bodiesOn d c xs ++ bodiesOn d c ys
+unfolding bodiesOn
+bodiesOn-append d c [] ys = refl
+bodiesOn-append d c (x ∷ xs) ys = go (isOn d c x) (bodiesOn-append d c xs ys)
+  where
+    go : (t : Bool) → bodiesOn d c (xs ++ ys) ≡ bodiesOn d c xs ++ bodiesOn d c ys → cond t (x .body ∷ bodiesOn d c (xs ++ ys)) (bodiesOn d c (xs ++ ys)) ≡ cond t (x .body ∷ bodiesOn d c xs) (bodiesOn d c xs) ++ bodiesOn d c ys
+    go true e = ap (λ (l : List ℕ). x .body ∷ l) e
+    go false e = e
+
+received-append : (xs ys : List Event) → receivedBodies (xs ++ ys) ≡ receivedBodies xs ++ receivedBodies ys
+unfolding receivedBodies
+received-append [] ys = refl
+received-append (x ∷ xs) ys = go (sameDirection received (x .direction)) (received-append xs ys)
+  where
+    go : (t : Bool) → receivedBodies (xs ++ ys) ≡ receivedBodies xs ++ receivedBodies ys → cond t (x .body ∷ receivedBodies (xs ++ ys)) (receivedBodies (xs ++ ys)) ≡ cond t (x .body ∷ receivedBodies xs) (receivedBodies xs) ++ receivedBodies ys
+    go true e = ap (λ (l : List ℕ). x .body ∷ l) e
+    go false e = e
+
+pub replay-append : (w : ℕ) (xs ys : List ℕ) → replay w (xs ++ ys) ≡ replay (replay w xs) ys
+unfolding replay
+replay-append w [] ys = refl
+replay-append w (x ∷ xs) ys = replay-append (enter w x) xs ys
+
+-- one more body after a log is one more entered
+pub replay-snoc : (w : ℕ) (xs : List ℕ) (b : ℕ) → replay w (xs ++ (b ∷ [])) ≡ enter (replay w xs) b
+unfolding replay
+replay-snoc w xs b = replay-append w xs (b ∷ [])
+
+-- the events that a step adds
+abbrev pub sentOn : ℕ → ℕ → Event
+sentOn c b = record { direction = sent; channel = c; body = b }
+
+abbrev pub receivedOn : ℕ → ℕ → Event
+receivedOn c b = record { direction = received; channel = c; body = b }
+
+-- an event of its own direction and channel is seen, any other is not
+pub sees : (d : Direction) (c : ℕ) (xs : List Event) (e : Event) → isOn d c e ≡ true → bodiesOn d c (xs ++ (e ∷ [])) ≡ bodiesOn d c xs ++ (e .body ∷ [])
+unfolding bodiesOn
+sees d c xs e t = rw (bodiesOn-append d c xs (e ∷ []), t)
+
+pub unseen : (d : Direction) (c : ℕ) (xs : List Event) (e : Event) → isOn d c e ≡ false → bodiesOn d c (xs ++ (e ∷ [])) ≡ bodiesOn d c xs
+unfolding bodiesOn
+unseen d c xs e t = rw (bodiesOn-append d c xs (e ∷ []), t) (append-nil _)
+
+pub sent-on : (c b : ℕ) → isOn sent c (sentOn c b) ≡ true
+unfolding isOn sameDirection
+sent-on c b = eq-eqb c c refl
+
+pub received-on : (c b : ℕ) → isOn received c (receivedOn c b) ≡ true
+unfolding isOn sameDirection
+received-on c b = eq-eqb c c refl
+
+pub sent-elsewhere : (c d b : ℕ) → (d ≡ c → ⊥) → isOn sent c (sentOn d b) ≡ false
+unfolding isOn sameDirection
+sent-elsewhere c d b n = ne-eqb c d (λ e. n (sym e))
+
+pub received-elsewhere : (c d b : ℕ) → (d ≡ c → ⊥) → isOn received c (receivedOn d b) ≡ false
+unfolding isOn sameDirection
+received-elsewhere c d b n = ne-eqb c d (λ e. n (sym e))
+
+pub send-is-no-receive : (c d b : ℕ) → isOn received c (sentOn d b) ≡ false
+unfolding isOn sameDirection
+send-is-no-receive c d b = refl
+
+pub receive-is-no-send : (c d b : ℕ) → isOn sent c (receivedOn d b) ≡ false
+unfolding isOn sameDirection
+receive-is-no-send c d b = refl
+
+-- the word after one more event
+pub word-sent : (xs : List Event) (c b : ℕ) → wordOf (xs ++ (sentOn c b ∷ [])) ≡ wordOf xs
+unfolding wordOf receivedBodies sameDirection
+word-sent xs c b = ap (replay 0) (received-append xs (sentOn c b ∷ []) ∙ append-nil _)
+
+pub word-received : (xs : List Event) (c b : ℕ) → wordOf (xs ++ (receivedOn c b ∷ [])) ≡ enter (wordOf xs) b
+unfolding wordOf receivedBodies sameDirection
+word-received xs c b = ap (replay 0) (received-append xs (receivedOn c b ∷ [])) ∙ replay-snoc 0 (receivedBodies xs) b
+
+-- marking at the end of a history leaves what stands before the mark
+pub before-end : (xs : List Event) → before (some (length xs)) xs ≡ xs
+unfolding before
+before-end xs = take-length xs
+
+-- With at most n sends on c in the first m events, the send that has n before it stands at place m or later; with more, before m.
+pub place-late : (c m n : ℕ) (es : List Event) → m ≤ length es → length (bodiesOn sent c (take m es)) ≤ n → n < length (bodiesOn sent c es) → m ≤ placeOfSend c n es
+unfolding bodiesOn placeOfSend
+place-late c zero n es l p q = zero-le
+place-late c (suc m) n [] l p q = absurd (omega arith)
+place-late c (suc m) zero (e ∷ es) l p q = go (isOn sent c e) (place-late c m zero es) p q
+  where
+    go : (t : Bool) → (m ≤ length es → length (bodiesOn sent c (take m es)) ≤ 0 → 0 < length (bodiesOn sent c es) → m ≤ placeOfSend c zero es) → length (cond t (e .body ∷ bodiesOn sent c (take m es)) (bodiesOn sent c (take m es))) ≤ 0 → 0 < length (cond t (e .body ∷ bodiesOn sent c es) (bodiesOn sent c es)) → suc m ≤ cond t 0 (suc (placeOfSend c zero es))
+    go true ih p q = absurd (omega arith)
+    go false ih p q = let h : m ≤ placeOfSend c zero es = ih (omega arith) p q in omega arith
+place-late c (suc m) (suc n) (e ∷ es) l p q = go (isOn sent c e) (place-late c m n es) (place-late c m (suc n) es) p q
+  where
+    go : (t : Bool) → (m ≤ length es → length (bodiesOn sent c (take m es)) ≤ n → n < length (bodiesOn sent c es) → m ≤ placeOfSend c n es) → (m ≤ length es → length (bodiesOn sent c (take m es)) ≤ suc n → suc n < length (bodiesOn sent c es) → m ≤ placeOfSend c (suc n) es) → length (cond t (e .body ∷ bodiesOn sent c (take m es)) (bodiesOn sent c (take m es))) ≤ suc n → suc n < length (cond t (e .body ∷ bodiesOn sent c es) (bodiesOn sent c es)) → suc m ≤ suc (cond t (placeOfSend c n es) (placeOfSend c (suc n) es))
+    go true ih₁ ih₂ p q = let h : m ≤ placeOfSend c n es = ih₁ (omega arith) (omega arith) (omega arith) in omega arith
+    go false ih₁ ih₂ p q = let h : m ≤ placeOfSend c (suc n) es = ih₂ (omega arith) p q in omega arith
+
+pub place-early : (c m n : ℕ) (es : List Event) → n < length (bodiesOn sent c (take m es)) → placeOfSend c n es < m
+unfolding bodiesOn placeOfSend
+place-early c zero n es p = absurd (omega arith)
+place-early c (suc m) n [] p = absurd (omega arith)
+place-early c (suc m) zero (e ∷ es) p = go (isOn sent c e) (place-early c m zero es) p
+  where
+    go : (t : Bool) → (0 < length (bodiesOn sent c (take m es)) → placeOfSend c zero es < m) → 0 < length (cond t (e .body ∷ bodiesOn sent c (take m es)) (bodiesOn sent c (take m es))) → cond t 0 (suc (placeOfSend c zero es)) < suc m
+    go true ih p = omega arith
+    go false ih p = let h : placeOfSend c zero es < m = ih p in omega arith
+place-early c (suc m) (suc n) (e ∷ es) p = go (isOn sent c e) (place-early c m n es) (place-early c m (suc n) es) p
+  where
+    go : (t : Bool) → (n < length (bodiesOn sent c (take m es)) → placeOfSend c n es < m) → (suc n < length (bodiesOn sent c (take m es)) → placeOfSend c (suc n) es < m) → suc n < length (cond t (e .body ∷ bodiesOn sent c (take m es)) (bodiesOn sent c (take m es))) → suc (cond t (placeOfSend c n es) (placeOfSend c (suc n) es)) < suc m
+    go true ih₁ ih₂ p = let h : placeOfSend c n es < m = ih₁ (omega arith) in omega arith
+    go false ih₁ ih₂ p = let h : placeOfSend c (suc n) es < m = ih₂ p in omega arith

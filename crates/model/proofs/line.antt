@@ -1,0 +1,20 @@
+-- The invariant behind demand 3, and that every step, initialize and recover keep it.
+pub mod ChannelState
+pub mod Invariant
+pub mod Kept
+pub mod SendKept
+pub mod ReceiveFlow
+pub mod LogKept
+pub mod CheckpointKept
+pub mod ReceivePlain
+pub mod ReceiveLogical
+pub mod ReceiveHistory
+pub mod ReceiveResult
+pub mod ReceiveKept
+pub mod MarkerKept
+pub mod AbortKept
+pub mod CommitKept
+pub mod BeginKept
+pub mod PhysicalKept
+pub mod StepKept
+pub mod RecoverKept
