@@ -1,0 +1,25 @@
+-- Laws that the proofs of several functions cite, and the cases of the steps.
+pub mod Channels
+pub mod Lists
+pub mod Logs
+pub mod Stores
+pub mod TopologyLaws
+pub mod SoundLaws
+pub mod Views
+pub mod Promises
+pub mod Lengths
+pub mod Bounds
+pub mod StoreBounds
+pub mod SendCases
+pub mod LogicalCheckpointCases
+pub mod SendMarkerCases
+pub mod AbortCases
+pub mod BeginCases
+pub mod PhysicalCheckpointCases
+pub mod CommitCases
+pub mod Layouts
+pub mod Recovers
+pub mod Starts
+pub mod ReceiveFacts
+pub mod ReceiveViews
+pub mod ReceiveCases

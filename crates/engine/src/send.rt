@@ -1,0 +1,44 @@
+// Step 1, send: a message after the others on its channel, with its sender's tag.
+use crate::channel;
+use model::Answer;
+use model::Entry;
+use model::Outcome;
+use model::Refusal;
+use model::State;
+ghost use mathlib.Core.Path.{_≡_};
+ghost use mathlib.Core.Bool.{true};
+ghost use Rattle.model.specs.State.{view};
+ghost use Rattle.model.specs.Sound.{sound};
+ghost use Rattle.model.specs.declared.Step.the-variants.{Send};
+ghost use Rattle.engine.specs.Answers.{Quiet};
+
+pub fn send(mut s: State, channel: u8, body: u32) -> Answer
+    requires { ⌜ sound (view s) ≡ true ⌝ }
+    ensures { λ r. ⌜ Quiet s (Send channel body) r ⌝ }
+{
+    let t = s.topology;
+    if t.channels <= channel {
+        return Answer {
+            outcome: Outcome::Refused(Refusal::NoSuch),
+            made: 0,
+            state: s,
+        };
+    }
+    let at = channel as usize;
+    let c = s.channels[at];
+    if channel::ROOM <= c.count {
+        return Answer {
+            outcome: Outcome::Refused(Refusal::ChannelFull),
+            made: 0,
+            state: s,
+        };
+    }
+    let from = t.from[at] as usize;
+    let tag = s.tags[from];
+    s.channels[at] = channel::push(c, Entry::Message { body, tag });
+    Answer {
+        outcome: Outcome::Done,
+        made: 0,
+        state: s,
+    }
+}
