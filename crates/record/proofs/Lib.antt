@@ -1,0 +1,6 @@
+-- Laws that the proofs of several functions cite.
+pub mod FieldLaws
+pub mod KindLaws
+pub mod ParseLaws
+pub mod PackLaws
+pub mod RoundTrip
