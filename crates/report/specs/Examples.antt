@@ -1,0 +1,53 @@
+-- Document 01's listing, and a line of each kind that it has none of, as one table: what the definitions give, and the text.
+use Prim.Native.Nat.{ℕ}
+use Prim.Native.String.{String}
+use mathlib.Core.List.{List, [], _∷_, _++_}
+use Rattle.model.specs.declared.Outcome.the-variants.{Refused, PowerLost}
+use Rattle.model.specs.declared.Refusal.the-variants.{NotNow}
+use Rattle.model.specs.Program.{outcome, head}
+use Rattle.model.specs.Cases.{input}
+use Rattle.report.specs.Text.{chars, lineText, cellText, outputText}
+
+-- each line with its end
+unfoldable pub lines : List String → List ℕ
+lines [] = []
+lines (l ∷ ls) = chars l ++ chars "\n" ++ lines ls
+
+pub record Example : Type 0 where
+  pub got : List ℕ
+  pub expected : List ℕ
+
+unfoldable pub examples : List Example
+examples =
+    -- the input above the listing
+    record {
+      got = outputText (head input);
+      expected =
+          lines
+          ("1 done 4"
+          ∷ "2 done 1"
+          ∷ "3 done 1"
+          ∷ "4 done 0"
+          ∷ "5 done 0"
+          ∷ "6 done 0"
+          ∷ "7 took 7 0"
+          ∷ "8 took 5 2"
+          ∷ "9 done 0"
+          ∷ "10 done 0"
+          ∷ "11 note 0"
+          ∷ "12 note 0"
+          ∷ "13 done 1"
+          ∷ "14 line 1 0"
+          ∷ "board 0 0"
+          ∷ "board 1 0"
+          ∷ "wire 0 0"
+          ∷ "wire 1 1 5"
+          ∷ []);
+    }
+    -- a plan of one byte
+    ∷ record { got = outputText (head (0x02 ∷ [])); expected = lines ("plan refused 7" ∷ []) }
+    ∷ record { got = lineText (record { number = 5; said = outcome (Refused NotNow); made = 0 }); expected = lines ("5 refused 12 0" ∷ []) }
+    -- `drill` alone
+    ∷ record { got = lineText (record { number = 5; said = outcome PowerLost; made = 3 }); expected = lines ("5 cut 3" ∷ []) }
+    ∷ record { got = cellText 3264 4294967295; expected = lines ("cell 3264 4294967295" ∷ []) }
+    ∷ []

@@ -1,0 +1,219 @@
+// The text of each line that `head` and `drill` print, written into a lent buffer. Every function writes from the position at on, as far as the
+// buffer goes, and answers the position after what it wrote.
+use model::Channel;
+use model::Entry;
+use model::Outcome;
+use model::Refusal;
+ghost use mathlib.Core.Path.{_≡_};
+ghost use mathlib.Core.List.{[], _∷_, _++_};
+ghost use lib.ListN.{length, getD};
+ghost use Rattle.model.specs.Channel.{entryOf, entries, bodies};
+ghost use Rattle.model.specs.Outcome.{refusalNumber};
+ghost use Rattle.model.specs.Program as program;
+ghost use Rattle.report.specs.Appends.{Appends};
+ghost use Rattle.report.specs.Text.{chars, decimal, values, saidText, lineText, planRefusedText, processText, channelText, cellText};
+
+// A text.
+pub fn bytes(out: &mut [u8], at: usize, text: &[u8]) -> usize
+    ensures { λ r. ⌜ Appends (now (out .entry)) at (now (text .entry)) (now (out .exit)) r ⌝ }
+{
+    let mut next = at;
+    let mut i = 0;
+    while i < text.len() && next < out.len() {
+        out[next] = text[i];
+        next += 1;
+        i += 1;
+    }
+    next
+}
+
+// A number in decimal.
+pub fn decimal(out: &mut [u8], at: usize, n: u32) -> usize
+    ensures { λ r. ⌜ Appends (now (out .entry)) at (decimal n) (now (out .exit)) r ⌝ }
+{
+    let mut next = at;
+    if n >= 10 {
+        next = decimal(out, at, n / 10);
+    }
+    let last = [b'0' + (n % 10) as u8];
+    bytes(out, next, &last)
+}
+
+// A space and a number.
+fn value(out: &mut [u8], at: usize, n: u32) -> usize
+    ensures { λ r. ⌜ Appends (now (out .entry)) at (values (n ∷ [])) (now (out .exit)) r ⌝ }
+{
+    let next = bytes(out, at, b" ");
+    decimal(out, next, n)
+}
+
+// A line's last number, and the line's end.
+fn last(out: &mut [u8], at: usize, n: u32) -> usize
+    ensures { λ r. ⌜ Appends (now (out .entry)) at (values (n ∷ []) ++ chars "\n") (now (out .exit)) r ⌝ }
+{
+    let next = value(out, at, n);
+    bytes(out, next, b"\n")
+}
+
+// A line's number, and a space.
+fn numbered(out: &mut [u8], at: usize, number: u32) -> usize
+    ensures { λ r. ⌜ Appends (now (out .entry)) at (decimal number ++ chars " ") (now (out .exit)) r ⌝ }
+{
+    let next = decimal(out, at, number);
+    bytes(out, next, b" ")
+}
+
+// A line of a name and two numbers.
+fn pair(out: &mut [u8], at: usize, name: &[u8], a: u32, b: u32) -> usize
+    ensures { λ r. ⌜ Appends (now (out .entry)) at (now (name .entry) ++ values (a ∷ b ∷ []) ++ chars "\n") (now (out .exit)) r ⌝ }
+{
+    let named = bytes(out, at, name);
+    let next = value(out, named, a);
+    last(out, next, b)
+}
+
+// Document 01's number of a refusal.
+pub fn number(r: Refusal) -> u8
+    ensures { λ n. ⌜ n ≡ refusalNumber r ⌝ }
+{
+    match r {
+        Refusal::ProcessCount => 1,
+        Refusal::ChannelCount => 2,
+        Refusal::UnknownEnd => 3,
+        Refusal::SelfChannel => 4,
+        Refusal::DoubledChannel => 5,
+        Refusal::ShortStore => 6,
+        Refusal::Malformed => 7,
+        Refusal::NoSuch => 8,
+        Refusal::ChannelFull => 9,
+        Refusal::ChannelEmpty => 10,
+        Refusal::LogFull => 11,
+        Refusal::NotNow => 12,
+        Refusal::LastLine => 13,
+        Refusal::MarkerOnClosed => 14,
+        Refusal::Unsound => 15,
+        Refusal::BadCount => 16,
+    }
+}
+
+// A step's outcome, with its value if it has one.
+fn said(out: &mut [u8], at: usize, outcome: Outcome) -> usize
+    ensures { λ r. ⌜ Appends (now (out .entry)) at (saidText (program.outcome outcome)) (now (out .exit)) r ⌝ }
+{
+    match outcome {
+        Outcome::Done => bytes(out, at, b"done"),
+        Outcome::Received(body) => {
+            let next = bytes(out, at, b"took");
+            value(out, next, body)
+        }
+        Outcome::ReceivedMarker => bytes(out, at, b"note"),
+        Outcome::Refused(r) => {
+            let next = bytes(out, at, b"refused");
+            value(out, next, number(r) as u32)
+        }
+        Outcome::PowerLost => bytes(out, at, b"cut"),
+    }
+}
+
+// A step's line.
+pub fn outcome_line(out: &mut [u8], at: usize, number: u32, outcome: Outcome, made: u32) -> usize
+    ensures { λ r. ⌜ Appends (now (out .entry)) at (lineText (record { number = number; said = program.outcome outcome; made = made })) (now (out .exit)) r ⌝ }
+{
+    let next = numbered(out, at, number);
+    let told = said(out, next, outcome);
+    last(out, told, made)
+}
+
+// A recover's line: it makes no writes.
+pub fn recover_line(out: &mut [u8], at: usize, number: u32, line: u32) -> usize
+    ensures { λ r. ⌜ Appends (now (out .entry)) at (lineText (record { number = number; said = program.line line; made = 0 })) (now (out .exit)) r ⌝ }
+{
+    let next = numbered(out, at, number);
+    let named = bytes(out, next, b"line");
+    let told = value(out, named, line);
+    last(out, told, 0)
+}
+
+// The line for a plan that is refused.
+pub fn plan_refused(out: &mut [u8], at: usize, r: Refusal) -> usize
+    ensures { λ n. ⌜ Appends (now (out .entry)) at (planRefusedText r) (now (out .exit)) n ⌝ }
+{
+    let next = bytes(out, at, b"plan refused");
+    last(out, next, number(r) as u32)
+}
+
+// The line of a process (board) with its word.
+pub fn process_line(out: &mut [u8], at: usize, p: u32, word: u32) -> usize
+    ensures { λ r. ⌜ Appends (now (out .entry)) at (processText p word) (now (out .exit)) r ⌝ }
+{
+    pair(out, at, b"board", p, word)
+}
+
+// The line of a store's cell with its value.
+pub fn cell_line(out: &mut [u8], at: usize, i: u32, v: u32) -> usize
+    ensures { λ r. ⌜ Appends (now (out .entry)) at (cellText i v) (now (out .exit)) r ⌝ }
+{
+    pair(out, at, b"cell", i, v)
+}
+
+// What a channel's place holds. A place past the array reads as a message with body 0 and tag 0.
+fn entry_at(c: Channel, i: u8) -> Entry
+    ensures { λ r. ⌜ r ≡ entryOf (getD (c .kinds) i 0) (getD (c .bodies) i 0) ⌝ }
+{
+    let at = i as usize;
+    if at >= 8 {
+        return Entry::Message {
+            body: 0,
+            tag: false,
+        };
+    }
+    let body = c.bodies[at];
+    match c.kinds[at] {
+        0 => Entry::Message { body, tag: false },
+        1 => Entry::Message { body, tag: true },
+        _ => Entry::Marker,
+    }
+}
+
+// How many messages a channel holds.
+fn messages(c: Channel) -> u32
+    ensures { λ r. ⌜ r ≡ length (bodies (entries c)) ⌝ }
+{
+    let mut n = 0;
+    let mut i: u8 = 0;
+    while i < c.count {
+        let e = entry_at(c, i);
+        if let Entry::Message { body: _, tag: _ } = e {
+            n += 1;
+        }
+        i += 1;
+    }
+    n
+}
+
+// The bodies of a channel's messages, each after a space.
+fn bodies(out: &mut [u8], at: usize, c: Channel) -> usize
+    ensures { λ r. ⌜ Appends (now (out .entry)) at (values (bodies (entries c))) (now (out .exit)) r ⌝ }
+{
+    let mut next = at;
+    let mut i: u8 = 0;
+    while i < c.count {
+        let e = entry_at(c, i);
+        if let Entry::Message { body, tag: _ } = e {
+            next = value(out, next, body);
+        }
+        i += 1;
+    }
+    next
+}
+
+// The line of a channel (wire) with its messages: their number, and their bodies.
+pub fn channel_line(out: &mut [u8], at: usize, c: u32, channel: Channel) -> usize
+    ensures { λ r. ⌜ Appends (now (out .entry)) at (channelText c (bodies (entries channel))) (now (out .exit)) r ⌝ }
+{
+    let named = bytes(out, at, b"wire");
+    let next = value(out, named, c);
+    let counted = value(out, next, messages(channel));
+    let listed = bodies(out, counted, channel);
+    bytes(out, listed, b"\n")
+}
