@@ -1,0 +1,22 @@
+-- `main` meets its contract: what is written out is a part of the buffer.
+use borrow.Author.Needs.{needs}
+use Rattle.session.proofs.Lines.{written-part}
+use Rattle.head.proofs.main.Statement.{statement}
+use Rattle.head.proofs.main.Tie as tie
+
+pub main-spec : {M : Type 1} → statement M
+main-spec =
+    tie.close
+    (tie.spec
+    (λ c κs. search needs)
+    (λ c. search needs)
+    (λ c κs. search needs)
+    (λ c κs. search needs)
+    (λ c. search needs)
+    (λ c. search needs)
+    (λ c. search needs)
+    (λ c κs. search needs)
+    (λ c. written-part (c .before .head .ensures) .0)
+    (λ c. written-part (c .before .before .head .ensures) .1)
+    (λ c κs. search needs)
+    (λ c. search needs))

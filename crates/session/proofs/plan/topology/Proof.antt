@@ -1,0 +1,26 @@
+-- `plan::topology` meets its contract.
+use borrow.Author.Needs.{needs}
+use native.Mathlib.Omega.{arith}
+use Rattle.model.specs.Program.{planOf}
+use Rattle.session.proofs.Plans.{Whole, whole}
+use Rattle.session.proofs.plan.topology.Statement.{statement}
+use Rattle.session.proofs.plan.topology.Tie as tie
+
+known : (c : tie.Start) → Whole (c .args .bytes .now)
+known c = whole (c .args .bytes .now) (c .pre)
+
+returns : tie.Need-returns
+unfolding planOf
+returns c =
+    let to = c .before .before in
+    rw (to .before .ends .ensures, to .ends2 .ensures)
+
+pub topology-spec : {M : Type 1} → statement M
+topology-spec =
+    tie.close
+    (tie.spec
+    (λ c κs. search needs)
+    (λ c κs. search needs)
+    (λ c. omega (arith, known (c .before .before .before .before)))
+    (λ c. omega (arith, known (c .before .before .before .before .before)))
+    returns)
