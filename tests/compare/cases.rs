@@ -1,0 +1,226 @@
+//! The cases of document 01, tried on the reference itself, with the refusals
+//! that no input of the programs can bring about.
+
+use crate::directed::{LISTING, LISTING_OUTPUT};
+use reference::program::{self, Program, Unwatched};
+use reference::record;
+use reference::state::{taken, Entry, Phase, State};
+use reference::steps::{Outcome, Step};
+use reference::store::{self, CELLS};
+use reference::topology::Topology;
+
+type Case = (&'static str, fn() -> bool);
+
+/// Tries every case: how many there are, or the names of those that fail.
+pub fn all() -> Result<usize, Vec<&'static str>> {
+    let cases: [Case; 17] = [
+        ("the listing", listing),
+        ("one board gives line 1", one_board),
+        ("8th entry passes, 9th send is 9; empty wire is 10", wire_full),
+        ("64th logged take passes, 65th is 11", message_log_full),
+        ("8th logged take of a wire log passes, 9th is 11", channel_log_full),
+        ("finish with 0 and 1 stores", finish_cut),
+        ("begin with 3 and 4 stores", begin_cut),
+        ("words", words),
+        ("records", records),
+        ("0 and 17 boards are 1, 16 pass", boards),
+        ("give up after step 6", give_up),
+        ("the last line numbers: 13", last_line),
+        ("a note on a closed wire: 14", note_on_closed),
+        ("unsound states: 15", unsound),
+        ("short stores: 6", short_store),
+        ("counts over their places: 16", counts_over),
+        ("order of refusals", order),
+    ];
+    let failed: Vec<_> =
+        cases.iter().filter(|(_, holds)| !holds()).map(|(name, _)| *name).collect();
+    if failed.is_empty() {
+        Ok(cases.len())
+    } else {
+        Err(failed)
+    }
+}
+
+/// A state on a pair of processes with a channel each way, and its store.
+struct Rig {
+    state: State,
+    store: Vec<u32>,
+}
+
+impl Rig {
+    fn new(processes: usize, channels: &[(usize, usize)]) -> Rig {
+        let topology = Topology { processes, channels: channels.to_vec() };
+        let mut store = vec![u32::MAX; CELLS];
+        let state = State::initialize(&topology, &mut store).expect("a whole plan");
+        Rig { state, store }
+    }
+
+    fn pair() -> Rig {
+        Rig::new(2, &[(0, 1), (1, 0)])
+    }
+
+    fn step(&mut self, step: Step) -> Outcome {
+        self.state.step(step, &mut self.store, u64::MAX).outcome
+    }
+
+    fn done(&mut self, steps: &[Step]) -> bool {
+        steps.iter().all(|&step| self.step(step) == Outcome::Done)
+    }
+
+    fn recovered(&self) -> State {
+        State::recover(&self.state.topology, &self.store).expect("a sound store")
+    }
+}
+
+const fn send(channel: usize, body: u32) -> Step {
+    Step::Send { channel, body }
+}
+const fn receive(channel: usize) -> Step {
+    Step::Receive { channel }
+}
+const fn copy(process: usize) -> Step {
+    Step::PhysicalCheckpoint { process }
+}
+const fn mark(process: usize) -> Step {
+    Step::LogicalCheckpoint { process }
+}
+const fn note(channel: usize) -> Step {
+    Step::SendMarker { channel }
+}
+
+fn listing() -> bool {
+    program::run(Program::Head, LISTING, &mut Unwatched) == LISTING_OUTPUT
+}
+
+fn one_board() -> bool {
+    let mut rig = Rig::new(1, &[]);
+    rig.done(&[Step::Begin, copy(0), mark(0), Step::Commit]) && rig.recovered().line == 1
+}
+
+fn wire_full() -> bool {
+    let mut rig = Rig::pair();
+    let empty = rig.step(receive(0)) == Outcome::Refused(10);
+    empty && rig.done(&[send(0, 1); 8]) && rig.step(send(0, 1)) == Outcome::Refused(9)
+}
+
+/// Sends and receives by turns; the n-th receive is the first refused, with 11.
+fn fills(rig: &mut Rig, channel: usize, n: u32) -> bool {
+    (1..=n).all(|i| {
+        let expected = if i < n { Outcome::Took(i) } else { Outcome::Refused(11) };
+        rig.done(&[send(channel, i)]) && rig.step(receive(channel)) == expected
+    })
+}
+
+fn message_log_full() -> bool {
+    let mut rig = Rig::pair();
+    let copied = rig.done(&[Step::Begin, copy(0)]) && fills(&mut rig, 1, 65);
+    copied && rig.done(&[copy(1)]) && fills(&mut rig, 0, 65)
+}
+
+fn channel_log_full() -> bool {
+    let mut rig = Rig::pair();
+    rig.done(&[Step::Begin, copy(0), copy(1), mark(0)]) && fills(&mut rig, 1, 9)
+}
+
+fn finish_cut() -> bool {
+    let mut rig = Rig::new(1, &[]);
+    let ready = rig.done(&[Step::Begin, copy(0), mark(0)]);
+    let before = rig.state.clone();
+    let lost = rig.state.step(Step::Commit, &mut rig.store, 0);
+    let kept =
+        lost.outcome == Outcome::PowerLost && rig.state == before && rig.recovered().line == 0;
+    let done = rig.state.step(Step::Commit, &mut rig.store, 1);
+    ready && kept && done.outcome == Outcome::Done && rig.recovered().line == 1
+}
+
+fn begin_cut() -> bool {
+    let mut rig = Rig::pair();
+    let lost = rig.state.step(Step::Begin, &mut rig.store, 3);
+    let done = rig.state.step(Step::Begin, &mut rig.store, 4);
+    (lost.outcome, lost.stores) == (Outcome::PowerLost, 3)
+        && (done.outcome, done.stores) == (Outcome::Done, 4)
+}
+
+fn words() -> bool {
+    taken(u32::MAX, 1) == 4_294_967_266
+        && taken(taken(0, 2), 3) == 65
+        && taken(taken(0, 3), 2) == 95
+}
+
+fn records() -> bool {
+    record::read(&[5, 2, 0]) == Err(7)
+        && record::read(&[1, 2]) == Ok((record::Record::Step(receive(0)), &[]))
+}
+
+fn boards() -> bool {
+    let check = |processes| Topology { processes, channels: Vec::new() }.check();
+    check(0) == Err(1) && check(17) == Err(1) && check(16) == Ok(())
+}
+
+fn give_up() -> bool {
+    let mut rig = Rig::pair();
+    let steps = [Step::Begin, copy(0), copy(1), send(1, 5), mark(0), send(0, 7), Step::Abort];
+    let held = |body| [Entry::Message { body, tag: false }];
+    rig.done(&steps) && rig.state.channels[0] == held(7) && rig.state.channels[1] == held(5)
+}
+
+fn last_line() -> bool {
+    let mut rig = Rig::pair();
+    rig.state.line = u32::MAX;
+    let thirteen = rig.step(Step::Begin) == Outcome::Refused(13);
+    rig.state.line = u32::MAX - 1;
+    thirteen && rig.done(&[Step::Begin])
+}
+
+fn note_on_closed() -> bool {
+    let mut rig = Rig::pair();
+    rig.state.phase = Phase::Logical;
+    rig.state.closed[0] = true;
+    rig.state.channels[0].push_back(Entry::Marker);
+    rig.step(receive(0)) == Outcome::Refused(14)
+}
+
+fn unsound() -> bool {
+    let faults: [fn(&mut State); 6] = [
+        |state| state.topology.processes = 0,
+        |state| state.channels[1] = vec![Entry::Marker; 9].into(),
+        |state| state.message_counts[1] = 65,
+        |state| state.channel_counts[1] = 9,
+        |state| state.phase = Phase::Physical { next: 2 },
+        |state| (state.phase, state.line) = (Phase::Logical, u32::MAX),
+    ];
+    faults.iter().all(|fault| {
+        let mut rig = Rig::pair();
+        fault(&mut rig.state);
+        rig.store.clear();
+        rig.step(receive(9)) == Outcome::Refused(15)
+    })
+}
+
+fn short_store() -> bool {
+    let mut rig = Rig::pair();
+    rig.store.pop();
+    rig.step(receive(9)) == Outcome::Refused(6)
+        && State::recover(&rig.state.topology, &rig.store) == Err(6)
+        && State::initialize(&rig.state.topology, &mut rig.store) == Err(6)
+}
+
+fn counts_over() -> bool {
+    let logs = [(store::message_log(1, 1), 65), (store::channel_log(1, 1), 9)];
+    logs.into_iter().all(|(cell, count)| {
+        let mut rig = Rig::pair();
+        rig.store.fill(0);
+        (rig.store[0], rig.store[cell]) = (1, count);
+        let over = State::recover(&rig.state.topology, &rig.store) == Err(16);
+        rig.store[cell] = count - 1;
+        over && rig.recovered().line == 1
+    })
+}
+
+/// 8 before 12, 12 before 9.
+fn order() -> bool {
+    let mut rig = Rig::pair();
+    let eight =
+        rig.step(note(2)) == Outcome::Refused(8) && rig.step(copy(2)) == Outcome::Refused(8);
+    eight && rig.done(&[send(0, 1); 8]) && rig.step(note(0)) == Outcome::Refused(12)
+}

@@ -1,0 +1,258 @@
+//! Fixed lists that go where chance seldom does.
+
+use crate::lists::List;
+use crate::plans;
+use crate::walk::{encode, Call};
+use reference::program::{Program, INPUT};
+use reference::record::Record;
+use reference::steps::Step;
+use reference::topology::Topology;
+
+const FULL: u32 = u32::MAX;
+const BOTH: [Program; 2] = [Program::Head, Program::Drill];
+
+/// Document 01's input and output.
+pub const LISTING: &[u8] = b"\x02\x02\x00\x01\x01\x00\x01\x03\x01\x04\x03\x04\x01\
+    \x0D\x01\x01\x05\x00\x00\x00\x01\x05\x09\x01\x07\x00\x00\x00\x01\x02\x05\x02\x01\
+    \x01\x06\x05\x06\x01\x01\x02\x05\x02\x01\x01\x07\x01\x09";
+pub const LISTING_OUTPUT: &str = "1 done 4\n2 done 1\n3 done 1\n4 done 0\n5 done 0\n\
+    6 done 0\n7 took 7 0\n8 took 5 2\n9 done 0\n10 done 0\n11 note 0\n12 note 0\n\
+    13 done 1\n14 line 1 0\nboard 0 0\nboard 1 0\nwire 0 0\nwire 1 1 5\n";
+
+fn list(name: String, program: Program, bytes: Vec<u8>) -> List {
+    List { name, program, bytes }
+}
+
+/// All of them.
+pub fn all() -> Vec<List> {
+    let mut lists = Vec::new();
+    for program in BOTH {
+        let listing = listing(program);
+        damages(&mut lists, program, &listing);
+        plan_bytes(&mut lists, program);
+        record_bytes(&mut lists, program);
+        lengths(&mut lists, program);
+        let bytes = encode(program, &plans::largest(), &full_logs());
+        lists.push(list(format!("{program:?}: every log full, twice"), program, bytes));
+        let bytes = encode(program, &pair(), &refusals());
+        lists.push(list(format!("{program:?}: refusals"), program, bytes));
+        let bytes = encode(program, &pair(), &rounds(12));
+        lists.push(list(format!("{program:?}: twelve rounds"), program, bytes));
+    }
+    cuts(&mut lists);
+    lists
+}
+
+/// The listing; for `drill` with full power before each record.
+fn listing(program: Program) -> Vec<u8> {
+    let (topology, mut rest) = Topology::read(LISTING).expect("the listing's plan");
+    let mut calls = Vec::new();
+    while !rest.is_empty() {
+        let (record, remaining) = reference::record::read(rest).expect("the listing's records");
+        calls.push((FULL, record));
+        rest = remaining;
+    }
+    encode(program, &topology, &calls)
+}
+
+/// The listing, each of its beginnings, and each of its bits turned over.
+fn damages(lists: &mut Vec<List>, program: Program, listing: &[u8]) {
+    for length in 0..=listing.len() {
+        let name = format!("{program:?}: first {length} bytes of the listing");
+        lists.push(list(name, program, listing[..length].to_vec()));
+    }
+    for bit in 0..8 * listing.len() {
+        let mut bytes = listing.to_vec();
+        bytes[bit / 8] ^= 1 << (bit % 8);
+        lists.push(list(format!("{program:?}: listing, bit {bit} turned over"), program, bytes));
+    }
+}
+
+/// Numbers of boards and wires at and past their ends, with wires that pass,
+/// that break off, and each way to refuse them.
+fn plan_bytes(lists: &mut Vec<List>, program: Program) {
+    for boards in [0, 1, 2, 15, 16, 17, 255] {
+        for wires in [0, 1, 2, 63, 64, 65, 255] {
+            for missing in [0, 1, 2] {
+                let mut bytes = plans::largest().write();
+                bytes.extend([1, 3, 1, 3]);
+                (bytes[0], bytes[1]) = (boards, wires);
+                let end = (2 + 2 * wires as usize).min(bytes.len());
+                bytes.truncate(end - missing.min(end));
+                let name =
+                    format!("{program:?}: {boards} boards, {wires} wires, {missing} missing");
+                lists.push(list(name, program, bytes));
+            }
+        }
+    }
+    let wires: [&[u8]; 9] = [
+        &[0, 2],
+        &[2, 0],
+        &[2, 2],
+        &[0, 0],
+        &[1, 1],
+        &[0, 1, 0, 1],
+        &[0, 1, 1, 0, 0, 1],
+        &[0, 1, 1, 1, 0, 2],
+        &[0, 1, 0, 2, 0, 1],
+    ];
+    for ends in wires {
+        let mut bytes = vec![2, ends.len() as u8 / 2];
+        bytes.extend(ends);
+        lists.push(list(format!("{program:?}: wires {ends:?}"), program, bytes));
+    }
+}
+
+/// Every bit map with every kind, its fields not 0 or all 0, before a begin.
+fn record_bytes(lists: &mut Vec<List>, program: Program) {
+    let maps = (0..32).chain([33, 65, 129, 255]);
+    for map in maps {
+        for kind in [0, 1, 2, 3, 4, 5, 6, 7, 8, 9, 10, 255] {
+            for fill in [0, 1] {
+                let mut bytes = pair().write();
+                let budget: &[u8] = if program == Program::Drill { &[9, 0, 0, 0] } else { &[] };
+                bytes.extend(budget);
+                bytes.push(map);
+                let sizes = [(1, 1), (2, 1), (4, 1), (8, 4)];
+                for (bit, size) in sizes.into_iter().filter(|(bit, _)| map & bit != 0) {
+                    bytes.extend(std::iter::repeat_n(if bit == 1 { kind } else { fill }, size));
+                }
+                bytes.extend(budget);
+                bytes.extend([1, 3]);
+                let name = format!("{program:?}: map {map}, kind {kind}, fields {fill}");
+                lists.push(list(name, program, bytes));
+            }
+        }
+    }
+}
+
+/// Inputs about as long as a program takes, and much longer ones.
+fn lengths(lists: &mut Vec<List>, program: Program) {
+    for length in [INPUT - 1, INPUT, INPUT + 1, INPUT + 2, 3 * INPUT] {
+        let one = Topology { processes: 1, channels: Vec::new() };
+        let mut calls = vec![(0, Record::Step(Step::Abort)); length / 2];
+        calls[5] = (FULL, Record::Step(Step::Begin));
+        let mut bytes = encode(program, &one, &calls);
+        bytes.truncate(length);
+        lists.push(list(format!("{program:?}: {length} bytes"), program, bytes));
+    }
+}
+
+fn pair() -> Topology {
+    Topology { processes: 2, channels: vec![(0, 1), (1, 0)] }
+}
+
+fn full(step: Step) -> Call {
+    (FULL, Record::Step(step))
+}
+
+/// Copies of every process: the physical phase from begin to end.
+fn copies(processes: usize) -> impl Iterator<Item = Call> {
+    let copy = |process| full(Step::PhysicalCheckpoint { process });
+    std::iter::once(full(Step::Begin)).chain((0..processes).map(copy))
+}
+
+/// Marks, markers and receives that end a round, and the commit.
+fn end_round(topology: &Topology, held: usize) -> Vec<Call> {
+    let channels = 0..topology.channels.len();
+    let marks = (0..topology.processes).map(|process| full(Step::LogicalCheckpoint { process }));
+    let receive = |channel| full(Step::Receive { channel });
+    let mut calls: Vec<Call> = marks.collect();
+    calls.extend(channels.clone().flat_map(|c| std::iter::repeat_n(receive(c), held)));
+    calls.extend(channels.clone().map(|channel| full(Step::SendMarker { channel })));
+    calls.extend(channels.map(receive));
+    calls.push(full(Step::Commit));
+    calls
+}
+
+/// Rounds on a pair, without a message, and a recover after each.
+fn rounds(number: usize) -> Vec<Call> {
+    let round = || copies(2).chain(end_round(&pair(), 0)).chain([(0, Record::Recover)]);
+    (0..number).flat_map(|_| round()).collect()
+}
+
+/// Two rounds on the largest plan in which every message log gets 64 bodies and
+/// every channel log 8: every cell of the store is written. Then a recover.
+fn full_logs() -> Vec<Call> {
+    let topology = plans::largest();
+    let mut calls = Vec::new();
+    for round in 0..2 {
+        calls.extend(copies(16));
+        for i in 0..1024 {
+            // 16 receives on each of the four channels into a process
+            let channel = i % 64;
+            calls.push(full(Step::Send { channel, body: FULL - i as u32 - round }));
+            calls.push(full(Step::Receive { channel }));
+        }
+        for i in 0..512 {
+            calls.push(full(Step::Send { channel: i / 8, body: FULL - 7 * i as u32 }));
+        }
+        calls.extend(end_round(&topology, 8));
+    }
+    calls.push((0, Record::Recover));
+    calls
+}
+
+/// Wires and both kinds of log filled one past their places, and each step
+/// where it isn't due.
+fn refusals() -> Vec<Call> {
+    let send = |channel| full(Step::Send { channel, body: 3 });
+    let receive = |channel| full(Step::Receive { channel });
+    let note = |channel| full(Step::SendMarker { channel });
+    let mark = |process| full(Step::LogicalCheckpoint { process });
+    let copy = |process| full(Step::PhysicalCheckpoint { process });
+    let mut calls = vec![copy(0), mark(0), note(0), full(Step::Commit), full(Step::Abort)];
+    calls.extend([copy(2), mark(2), note(2), send(2), receive(2), receive(0), full(Step::Begin)]);
+    calls.extend([full(Step::Begin), copy(1), copy(0), mark(0), full(Step::Commit)]);
+    calls.extend((0..65).flat_map(|_| [send(1), receive(1)]));
+    calls.extend([copy(1), mark(1), note(0)]);
+    calls.extend((0..65).flat_map(|_| [send(0), receive(0)]));
+    calls.extend([full(Step::Commit), mark(0), mark(0)]);
+    calls.extend((0..9).flat_map(|_| [receive(1), send(1)]));
+    calls.extend((0..9).map(|_| send(0)));
+    calls.extend([note(0), note(1), mark(1), full(Step::Commit), full(Step::Abort)]);
+    calls
+}
+
+/// Power lost after every count of stores of every step that stores: begin on
+/// the largest plan, and each step of a round on a pair, with and without a
+/// recover after it.
+fn cuts(lists: &mut Vec<List>) {
+    let begin = Record::Step(Step::Begin);
+    for recover in [false, true] {
+        let mut calls = Vec::new();
+        for budget in 0..=80 {
+            calls.push((budget, begin));
+            calls.extend(recover.then_some((0, Record::Recover)));
+        }
+        let bytes = encode(Program::Drill, &plans::largest(), &calls);
+        lists.push(list(
+            "Drill: begin cut after 0 to 79 stores".to_string(),
+            Program::Drill,
+            bytes,
+        ));
+    }
+    let mut round: Vec<Call> = copies(2).collect();
+    round
+        .extend([(0, 5), (1, 6), (0, 7)].map(|(channel, body)| full(Step::Send { channel, body })));
+    round
+        .extend([full(Step::Receive { channel: 0 }), full(Step::LogicalCheckpoint { process: 0 })]);
+    round.extend([full(Step::Receive { channel: 1 })]);
+    round.extend(end_round(&pair(), 1).split_off(1));
+    for at in 0..round.len() {
+        for budget in 0..4 {
+            for recover in [false, true] {
+                let mut calls = round.clone();
+                calls.extend(round.clone());
+                calls[round.len() + at].0 = budget;
+                if recover {
+                    calls.insert(round.len() + at + 1, (0, Record::Recover));
+                }
+                calls.push((0, Record::Recover));
+                let bytes = encode(Program::Drill, &pair(), &calls);
+                let name = format!("Drill: second round, call {at} with budget {budget}");
+                lists.push(list(name, Program::Drill, bytes));
+            }
+        }
+    }
+}

@@ -1,0 +1,137 @@
+//! What a run must have seen, and how often it saw it.
+
+use reference::program::Program;
+use std::collections::BTreeMap;
+
+/// What was seen: a group, what it was in document 01's words, and a number (a
+/// refusal's, or the stores made at a lost power).
+pub type Sight = (&'static str, &'static str, u64);
+
+/// Takes, by document 01's rules.
+pub const PLAIN: &str = "idle, no log";
+pub const PLAIN_COPYING: &str = "copying, receiver not copied, no log";
+pub const COPIED_LOGS: &str = "copying, board log";
+pub const MARKER_MARKS: &str = "marking, note marks the receiver";
+pub const MARKER_CLOSES: &str = "marking, note on a marked receiver";
+pub const MESSAGE_MARKS: &str = "marking, message marks first";
+pub const UNMARKED_LOGS: &str = "marking, equal tags, board log";
+pub const MARKED_PLAIN: &str = "marking, equal tags, no log";
+pub const CHANNEL_LOGS: &str = "marking, different tag, wire log";
+
+/// What 12 was the answer to.
+pub const TWELVES: [&str; 13] = [
+    "begin in a round",
+    "copy outside copying",
+    "copy out of order",
+    "mark outside marking",
+    "mark twice",
+    "mark before board 0",
+    "note outside marking",
+    "note before the mark",
+    "note twice",
+    "finish outside marking",
+    "finish, board unmarked",
+    "finish, wire open",
+    "give up when idle",
+];
+
+/// Refusals that no input can bring about: 6, the store has 3,265 cells; 13, an
+/// input is too short for so many rounds; 14, 15 and 16, no reached state or
+/// store is like that.
+pub const NEVER: [u64; 5] = [6, 13, 14, 15, 16];
+
+#[derive(Default)]
+pub struct Seen {
+    counts: BTreeMap<(Program, Sight), u64>,
+    /// Calls after which demand 3 was checked, and those among them that its
+    /// premise doesn't cover.
+    pub demands: u64,
+    pub beyond: u64,
+}
+
+impl Seen {
+    pub fn count(&mut self, program: Program, sight: Sight) {
+        *self.counts.entry((program, sight)).or_insert(0) += 1;
+    }
+
+    fn of(&self, program: Program, sight: Sight) -> u64 {
+        self.counts.get(&(program, sight)).copied().unwrap_or(0)
+    }
+
+    /// Prints every count; the number of sights required, or those missing.
+    pub fn report(&self) -> Result<usize, Vec<String>> {
+        let mut missing = Vec::new();
+        let mut required_in_all = 0;
+        for program in [Program::Head, Program::Drill] {
+            let required = required(program);
+            required_in_all += required.len() + NEVER.len();
+            for sight in &required {
+                let count = self.of(program, *sight);
+                println!("seen {}: {count}", name(program, *sight));
+                if count == 0 {
+                    missing.push(format!("never seen: {}", name(program, *sight)));
+                }
+            }
+            for (&(_, sight), _) in self.counts.iter().filter(|((p, _), _)| *p == program) {
+                if sight.0 == "refused" && NEVER.contains(&sight.2) {
+                    missing.push(format!("seen, but cannot be: {}", name(program, sight)));
+                }
+            }
+        }
+        if missing.is_empty() {
+            Ok(required_in_all)
+        } else {
+            Err(missing)
+        }
+    }
+}
+
+fn name(program: Program, (group, what, number): Sight) -> String {
+    let program = if program == Program::Head { "head" } else { "drill" };
+    match group {
+        "plan refused" => format!("{program} {group} {number}"),
+        "refused" => format!("{program} {group} {number} ({what})"),
+        "cut" => format!("{program} {group} {number} ({what})"),
+        _ => format!("{program} {group} ({what})"),
+    }
+}
+
+/// Everything that a run must see.
+fn required(program: Program) -> Vec<Sight> {
+    let mut sights: Vec<Sight> = [1, 2, 3, 4, 5, 7].map(|n| ("plan refused", "", n)).to_vec();
+    sights.push(("refused", "record", 7));
+    sights.extend(["send", "take", "copy", "mark", "note"].map(|what| ("refused", what, 8)));
+    sights.extend(["send", "note"].map(|what| ("refused", what, 9)));
+    sights.push(("refused", "take", 10));
+    let logs = [COPIED_LOGS, UNMARKED_LOGS, CHANNEL_LOGS];
+    sights.extend(logs.map(|what| ("refused", what, 11)));
+    sights.extend(TWELVES.map(|what| ("refused", what, 12)));
+    let takes = [
+        PLAIN,
+        PLAIN_COPYING,
+        COPIED_LOGS,
+        MARKER_MARKS,
+        MARKER_CLOSES,
+        MESSAGE_MARKS,
+        UNMARKED_LOGS,
+        MARKED_PLAIN,
+        CHANNEL_LOGS,
+    ];
+    sights.extend(takes.map(|what| ("take", what, 0)));
+    let done = ["send", "begin", "copy", "mark", "note", "finish", "give up"];
+    sights.extend(done.map(|what| ("done", what, 0)));
+    sights.extend(["idle", "copying", "marking"].map(|what| ("restart", what, 0)));
+    sights.extend(["board log of 64", "wire log of 8"].map(|what| ("finish with", what, 0)));
+    sights.extend(["board log of 64", "wire log of 8"].map(|what| ("restart from", what, 0)));
+    sights.extend(["tenth line", "tags 1 at begin"].map(|what| ("round", what, 0)));
+    sights.push(("input", "longer than is taken", 0));
+    if program == Program::Drill {
+        sights.extend((0..80).map(|stores| ("cut", "begin", stores)));
+        sights.extend([("cut", "copy", 0), ("cut", "finish", 0)]);
+        for log in logs {
+            sights.extend([("cut", log, 0), ("cut", log, 1)]);
+        }
+        sights.extend(["restart", "another call"].map(|what| ("after a cut", what, 0)));
+    }
+    sights
+}

@@ -1,0 +1,260 @@
+//! A random walk over the reference's state that prefers useful steps: a round
+//! driver, mixed with sends, takes, bursts that fill logs and channels, recovers
+//! and calls at random.
+
+use crate::rng::Rng;
+use reference::program::{call, Program};
+use reference::record::{self, Record};
+use reference::state::{Phase, State, CAPACITY};
+use reference::steps::{Outcome, Receipt, Step};
+use reference::store::CELLS;
+use reference::topology::Topology;
+
+/// A call of a list: its write budget (of `drill`) and its record.
+pub type Call = (u32, Record);
+
+/// How a list likes to walk. Weights: send, receive, drive, burst, recover,
+/// abort, anything.
+pub struct Style {
+    weights: [usize; 7],
+    /// Of a hundred calls that store something, how many lose power.
+    cuts: usize,
+    /// Of a hundred lost powers, how many are followed by a recover.
+    recovers: usize,
+}
+
+impl Style {
+    pub fn random(rng: &mut Rng) -> Style {
+        let weights = match rng.weighted(&[30, 25, 20, 15, 10]) {
+            0 => [20, 20, 50, 2, 2, 1, 2],
+            1 => [10, 10, 100, 1, 1, 0, 0],
+            2 => [10, 15, 30, 12, 1, 0, 1],
+            3 => [40, 20, 40, 2, 3, 3, 10],
+            _ => [10, 10, 10, 1, 5, 5, 40],
+        };
+        let cuts = rng.pick(&[0, 2, 5, 20, 60]).unwrap();
+        Style { weights, cuts, recovers: rng.pick(&[100, 100, 80, 30]).unwrap() }
+    }
+}
+
+pub struct Walk<'a> {
+    pub rng: &'a mut Rng,
+    program: Program,
+    style: Style,
+    pub state: State,
+    store: Vec<u32>,
+    pub calls: Vec<Call>,
+}
+
+impl<'a> Walk<'a> {
+    pub fn new(rng: &'a mut Rng, program: Program, topology: &Topology, style: Style) -> Walk<'a> {
+        let mut store = vec![0; CELLS];
+        let state = State::initialize(topology, &mut store).expect("a whole plan");
+        Walk { rng, program, style, state, store, calls: Vec::new() }
+    }
+
+    /// Walks until the list has so many calls (or a few more).
+    pub fn go(&mut self, calls: usize) {
+        while self.calls.len() < calls {
+            match self.rng.weighted(&self.style.weights) {
+                0 => self.send(),
+                1 => self.receive(),
+                2 => self.drive(),
+                3 => self.burst(),
+                4 => self.call(Record::Recover),
+                5 => self.step(Step::Abort),
+                _ => self.anything(),
+            }
+        }
+    }
+
+    fn step(&mut self, step: Step) {
+        self.call(Record::Step(step));
+    }
+
+    /// One call, with a budget that suits it or, at times, one that doesn't.
+    fn call(&mut self, record: Record) {
+        let budget = match self.program {
+            Program::Head => u32::MAX,
+            Program::Drill => self.budget(record),
+        };
+        let answer = call(&mut self.state, &mut self.store, record, u64::from(budget));
+        self.calls.push((budget, record));
+        if answer.outcome == Outcome::PowerLost && self.rng.percent(self.style.recovers) {
+            let budget = self.rng.below(3) as u32;
+            call(&mut self.state, &mut self.store, Record::Recover, 0);
+            self.calls.push((budget, Record::Recover));
+        }
+    }
+
+    fn budget(&mut self, record: Record) -> u32 {
+        let needed = self.needed(record);
+        if needed > 0 && self.rng.percent(self.style.cuts) {
+            return self.rng.below(needed) as u32;
+        }
+        match self.rng.below(4) {
+            0 => u32::MAX,
+            1 => (needed + self.rng.below(300)) as u32,
+            _ => needed as u32,
+        }
+    }
+
+    /// The stores that an accepted call makes.
+    fn needed(&self, record: Record) -> usize {
+        let topology = &self.state.topology;
+        match record {
+            Record::Step(Step::Begin) => topology.processes + topology.channels.len(),
+            Record::Step(Step::PhysicalCheckpoint { .. } | Step::Commit) => 1,
+            Record::Step(Step::Receive { channel }) if channel < topology.channels.len() => {
+                match self.state.receipt(channel) {
+                    Some(Receipt::CopiedLogs | Receipt::UnmarkedLogs | Receipt::ChannelLogs) => 2,
+                    _ => 0,
+                }
+            }
+            _ => 0,
+        }
+    }
+
+    fn body(&mut self) -> u32 {
+        match self.rng.below(6) {
+            0 => 0,
+            1 => u32::MAX - self.rng.below(2) as u32,
+            2 => self.rng.next() as u32,
+            _ => self.rng.below(300) as u32,
+        }
+    }
+
+    /// A planned channel, mostly one of those that meet a test.
+    fn channel(&mut self, test: impl Fn(&State, usize) -> bool) -> usize {
+        let all: Vec<usize> = (0..self.state.topology.channels.len()).collect();
+        let fit: Vec<usize> = all.iter().copied().filter(|&c| test(&self.state, c)).collect();
+        let strict = self.rng.percent(94);
+        let chosen =
+            if strict && !fit.is_empty() { self.rng.pick(&fit) } else { self.rng.pick(&all) };
+        chosen.unwrap_or(0)
+    }
+
+    fn send(&mut self) {
+        let channel = self.channel(|state, c| state.channels[c].len() < CAPACITY);
+        let body = self.body();
+        self.step(Step::Send { channel, body });
+    }
+
+    fn receive(&mut self) {
+        let channel = self.channel(|state, c| !state.channels[c].is_empty());
+        self.step(Step::Receive { channel });
+    }
+
+    /// The next step of a round, drawn from those that get it on.
+    fn drive(&mut self) {
+        match self.state.phase {
+            Phase::Idle => self.step(Step::Begin),
+            Phase::Physical { next } => self.step(Step::PhysicalCheckpoint { process: next }),
+            Phase::Logical => self.drive_logical(),
+        }
+    }
+
+    fn drive_logical(&mut self) {
+        let state = &self.state;
+        let planned = 0..state.topology.channels.len();
+        let sender = |c: usize| state.topology.channels[c].0;
+        let markers = planned.clone().filter(|&c| {
+            state.marked[sender(c)] && !state.marker_sent[c] && state.channels[c].len() < CAPACITY
+        });
+        let receives = planned.filter(|&c| !state.closed[c] && !state.channels[c].is_empty());
+        let marks = (0..state.topology.processes)
+            .filter(|&p| !state.marked[p] && (p == 0 || state.marked[0]));
+        let markers: Vec<Step> = markers.map(|channel| Step::SendMarker { channel }).collect();
+        let receives: Vec<Step> = receives.map(|channel| Step::Receive { channel }).collect();
+        let marks: Vec<Step> = marks.map(|process| Step::LogicalCheckpoint { process }).collect();
+        if state.all_marked() && state.all_closed() {
+            return self.step(Step::Commit);
+        }
+        let order = match self.rng.below(5) {
+            0 | 1 => [markers, receives, marks],
+            2 | 3 => [receives, markers, marks],
+            _ => [marks, markers, receives],
+        };
+        let useful = order.iter().find(|steps| !steps.is_empty());
+        match useful.and_then(|steps| self.rng.pick(steps)) {
+            Some(step) => self.step(step),
+            None => self.step(Step::Abort),
+        }
+        // A full log can hold a round up for good.
+        if self.rng.percent(1) {
+            self.step(Step::Abort);
+        }
+    }
+
+    /// Fills a log, fills a channel, or drains one.
+    fn burst(&mut self) {
+        let channel = self.channel(|state, c| {
+            let (from, to) = state.topology.channels[c];
+            match state.phase {
+                Phase::Idle => true,
+                Phase::Physical { next } => to < next,
+                Phase::Logical => !state.marked[from],
+            }
+        });
+        match self.rng.below(4) {
+            0 => {
+                for _ in 0..8 + self.rng.below(2) {
+                    let body = self.body();
+                    self.step(Step::Send { channel, body });
+                }
+                if self.rng.percent(50) {
+                    self.step(Step::SendMarker { channel });
+                }
+            }
+            1 => {
+                for _ in 0..self.rng.below(10) {
+                    self.step(Step::Receive { channel });
+                }
+            }
+            _ => self.pairs(channel),
+        }
+    }
+
+    /// Send and receive by turns, as often as one log or the other has places.
+    fn pairs(&mut self, channel: usize) {
+        for _ in 0..self.rng.pick(&[3, 8, 9, 20, 64, 65]).unwrap() {
+            let body = self.body();
+            self.step(Step::Send { channel, body });
+            self.step(Step::Receive { channel });
+        }
+    }
+
+    /// Any record, also with numbers that aren't in the plan.
+    fn anything(&mut self) {
+        let (processes, channels) =
+            (self.state.topology.processes, self.state.topology.channels.len());
+        let beyond = self.rng.percent(20);
+        let process = self.rng.below(processes) + if beyond { processes } else { 0 };
+        let channel = self.rng.below(channels) + if beyond { channels } else { 0 };
+        let body = self.body();
+        let record = match self.rng.below(9) {
+            0 => Record::Step(Step::Send { channel, body }),
+            1 => Record::Step(Step::Receive { channel }),
+            2 => Record::Step(Step::Begin),
+            3 => Record::Step(Step::PhysicalCheckpoint { process }),
+            4 => Record::Step(Step::LogicalCheckpoint { process }),
+            5 => Record::Step(Step::SendMarker { channel }),
+            6 => Record::Step(Step::Commit),
+            7 => Record::Step(Step::Abort),
+            _ => Record::Recover,
+        };
+        self.call(record);
+    }
+}
+
+/// The bytes of a whole input.
+pub fn encode(program: Program, topology: &Topology, calls: &[Call]) -> Vec<u8> {
+    let mut bytes = topology.write();
+    for &(budget, record) in calls {
+        if program == Program::Drill {
+            bytes.extend(budget.to_le_bytes());
+        }
+        bytes.extend(record::write(record));
+    }
+    bytes
+}

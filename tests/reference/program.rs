@@ -1,0 +1,152 @@
+//! The programs `head` (document 01) and `drill` (issue 4, item 4): bytes in,
+//! bytes out.
+
+use crate::record::{self, Record};
+use crate::state::State;
+use crate::steps::{Answer, Outcome};
+use crate::store::CELLS;
+use crate::topology::Topology;
+use std::fmt::Write;
+use std::io::{self, Read};
+
+/// Bytes of standard input that a program takes.
+pub const INPUT: usize = 65_536;
+
+#[derive(Clone, Copy, Debug, PartialEq, Eq, PartialOrd, Ord)]
+pub enum Program {
+    /// Records alone; full power for every call.
+    Head,
+    /// Each record is preceded by its write budget, and the store is printed.
+    Drill,
+}
+
+/// Looks on while a program runs.
+pub trait Watch {
+    fn refused_plan(&mut self, _number: u8) {}
+    fn started(&mut self, _state: &State) {}
+    fn unreadable(&mut self) {}
+    fn before(&mut self, _state: &State, _record: Record) {}
+    fn after(&mut self, _state: &State, _store: &[u32], _record: Record, _answer: Answer) {}
+}
+
+/// Watches nothing.
+pub struct Unwatched;
+impl Watch for Unwatched {}
+
+/// What the store holds before initialize.
+fn rubbish() -> Vec<u32> {
+    (0..CELLS as u32).map(|cell| cell.wrapping_mul(2_654_435_761)).collect()
+}
+
+/// A call's write budget, the record, and the bytes after it; or 7.
+pub fn read_call(program: Program, bytes: &[u8]) -> Result<(u64, Record, &[u8]), u8> {
+    let (budget, bytes) = match program {
+        Program::Head => (u64::MAX, bytes),
+        Program::Drill => {
+            let (budget, bytes) = bytes.split_first_chunk::<4>().ok_or(7)?;
+            (u64::from(u32::from_le_bytes(*budget)), bytes)
+        }
+    };
+    let (record, rest) = record::read(bytes)?;
+    Ok((budget, record, rest))
+}
+
+/// One call: a step, or a recover, which keeps the state where it is refused.
+pub fn call(state: &mut State, store: &mut [u32], record: Record, budget: u64) -> Answer {
+    let step = match record {
+        Record::Step(step) => step,
+        Record::Recover => {
+            let outcome = match State::recover(&state.topology, store) {
+                Ok(recovered) => {
+                    *state = recovered;
+                    Outcome::Line(state.line)
+                }
+                Err(number) => Outcome::Refused(number),
+            };
+            return Answer { outcome, stores: 0 };
+        }
+    };
+    state.step(step, store, budget)
+}
+
+/// The whole output for an input.
+pub fn run(program: Program, input: &[u8], watch: &mut dyn Watch) -> String {
+    let mut text = String::new();
+    let input = &input[..input.len().min(INPUT)];
+    let mut store = rubbish();
+    let started = Topology::read(input).and_then(|(topology, rest)| {
+        State::initialize(&topology, &mut store).map(|state| (state, rest))
+    });
+    let (mut state, mut rest) = match started {
+        Ok(started) => started,
+        Err(number) => {
+            watch.refused_plan(number);
+            return format!("plan refused {number}\n");
+        }
+    };
+    watch.started(&state);
+    let mut number = 0;
+    while !rest.is_empty() {
+        number += 1;
+        let Ok((budget, record, remaining)) = read_call(program, rest) else {
+            watch.unreadable();
+            print(&mut text, number, Answer { outcome: Outcome::Refused(7), stores: 0 });
+            break;
+        };
+        rest = remaining;
+        watch.before(&state, record);
+        let answer = call(&mut state, &mut store, record, budget);
+        watch.after(&state, &store, record, answer);
+        print(&mut text, number, answer);
+    }
+    print_state(&mut text, &state);
+    if program == Program::Drill {
+        print_store(&mut text, &store);
+    }
+    text
+}
+
+/// One line: the call's number, its outcome and the stores made.
+fn print(text: &mut String, number: u32, answer: Answer) {
+    let outcome = match answer.outcome {
+        Outcome::Done => "done".to_string(),
+        Outcome::Took(body) => format!("took {body}"),
+        Outcome::Marker => "note".to_string(),
+        Outcome::Line(line) => format!("line {line}"),
+        Outcome::Refused(refusal) => format!("refused {refusal}"),
+        Outcome::PowerLost => "cut".to_string(),
+    };
+    let _ = writeln!(text, "{number} {outcome} {}", answer.stores);
+}
+
+/// Each process with its word; each channel with its messages, markers left out.
+fn print_state(text: &mut String, state: &State) {
+    for p in 0..state.topology.processes {
+        let _ = writeln!(text, "board {p} {}", state.words[p]);
+    }
+    for c in 0..state.topology.channels.len() {
+        let bodies = state.bodies(c);
+        let _ = write!(text, "wire {c} {}", bodies.len());
+        for body in bodies {
+            let _ = write!(text, " {body}");
+        }
+        text.push('\n');
+    }
+}
+
+/// Each cell that differs from its value before initialize.
+fn print_store(text: &mut String, store: &[u32]) {
+    for (cell, (now, before)) in store.iter().zip(rubbish()).enumerate() {
+        if *now != before {
+            let _ = writeln!(text, "cell {cell} {now}");
+        }
+    }
+}
+
+/// The program itself: standard input to standard output.
+pub fn main(program: Program) -> io::Result<()> {
+    let mut input = Vec::new();
+    io::stdin().lock().take(INPUT as u64).read_to_end(&mut input)?;
+    let text = run(program, &input, &mut Unwatched);
+    io::Write::write_all(&mut io::stdout().lock(), text.as_bytes())
+}

@@ -1,0 +1,287 @@
+//! The eight steps. Each makes its refusals in document 01's order (15, 6, 8,
+//! 12, 13, 10, 14, 9, 11), then its stores, and changes the state only when
+//! nothing can stop it any more.
+
+use crate::state::{taken, Entry, Phase, State, CAPACITY};
+use crate::store::{self, Power, Stop, CELLS, CHANNEL_LOG, LINE, MESSAGE_LOG};
+
+/// Document 01's steps 1 to 8, with the fields that each uses.
+#[derive(Clone, Copy, Debug, PartialEq, Eq)]
+pub enum Step {
+    Send {
+        channel: usize,
+        body: u32,
+    },
+    /// Document 01: take.
+    Receive {
+        channel: usize,
+    },
+    Begin,
+    /// Document 01: copy.
+    PhysicalCheckpoint {
+        process: usize,
+    },
+    /// Document 01: mark.
+    LogicalCheckpoint {
+        process: usize,
+    },
+    /// Document 01: note.
+    SendMarker {
+        channel: usize,
+    },
+    /// Document 01: finish.
+    Commit,
+    /// Document 01: give up.
+    Abort,
+}
+
+/// What a call came to.
+#[derive(Clone, Copy, Debug, PartialEq, Eq)]
+pub enum Outcome {
+    Done,
+    /// A receive gave this body.
+    Took(u32),
+    /// A receive gave a marker (document 01: note).
+    Marker,
+    /// A recover gave this recovery line.
+    Line(u32),
+    Refused(u8),
+    /// Document 01: cut.
+    PowerLost,
+}
+
+#[derive(Clone, Copy, Debug, PartialEq, Eq)]
+pub struct Answer {
+    pub outcome: Outcome,
+    pub stores: u64,
+}
+
+/// The rule of document 01 that a receive falls under.
+#[derive(Clone, Copy, Debug, PartialEq, Eq)]
+pub enum Receipt {
+    /// Outside marking: a note is merely removed.
+    MarkerDropped,
+    /// Outside marking: a message, not logged.
+    Plain,
+    /// In copying: a copied receiver logs in its board log.
+    CopiedLogs,
+    /// In marking: a note marks the receiver and closes the wire.
+    MarkerMarks,
+    /// In marking: a note closes the wire of a marked receiver.
+    MarkerCloses,
+    /// In marking: a note on a closed wire, 14.
+    MarkerOnClosed,
+    /// In marking, other tag, unmarked receiver: it is marked first.
+    MessageMarks,
+    /// In marking, equal tags, unmarked receiver: board log.
+    UnmarkedLogs,
+    /// In marking, equal tags, marked receiver: no log.
+    MarkedPlain,
+    /// In marking, other tag, marked receiver: wire log.
+    ChannelLogs,
+}
+
+fn require(met: bool, refusal: u8) -> Result<(), Stop> {
+    if met {
+        Ok(())
+    } else {
+        Err(Stop::Refused(refusal))
+    }
+}
+
+impl State {
+    /// One call of a step, with the stores that the power lasts for.
+    pub fn step(&mut self, step: Step, cells: &mut [u32], budget: u64) -> Answer {
+        let enough = cells.len() >= CELLS;
+        let mut power = Power::new(cells, budget);
+        let result = require(self.sound(), 15)
+            .and_then(|()| require(enough, 6))
+            .and_then(|()| self.perform(step, &mut power));
+        let outcome = match result {
+            Ok(outcome) => outcome,
+            Err(Stop::Refused(number)) => Outcome::Refused(number),
+            Err(Stop::PowerLost) => Outcome::PowerLost,
+        };
+        Answer { outcome, stores: power.made() }
+    }
+
+    fn perform(&mut self, step: Step, power: &mut Power) -> Result<Outcome, Stop> {
+        match step {
+            Step::Send { channel, body } => self.send(channel, body)?,
+            Step::Receive { channel } => return self.receive(channel, power),
+            Step::Begin => self.begin(power)?,
+            Step::PhysicalCheckpoint { process } => self.physical_checkpoint(process, power)?,
+            Step::LogicalCheckpoint { process } => self.logical_checkpoint(process)?,
+            Step::SendMarker { channel } => self.send_marker(channel)?,
+            Step::Commit => self.commit(power)?,
+            Step::Abort => self.abort()?,
+        }
+        Ok(Outcome::Done)
+    }
+
+    /// A planned channel's ends, or 8.
+    fn ends(&self, channel: usize) -> Result<(usize, usize), Stop> {
+        self.topology.channels.get(channel).copied().ok_or(Stop::Refused(8))
+    }
+
+    fn send(&mut self, channel: usize, body: u32) -> Result<(), Stop> {
+        let (from, _) = self.ends(channel)?;
+        require(self.channels[channel].len() < CAPACITY, 9)?;
+        let tag = self.tags[from];
+        self.channels[channel].push_back(Entry::Message { body, tag });
+        Ok(())
+    }
+
+    fn receive(&mut self, channel: usize, power: &mut Power) -> Result<Outcome, Stop> {
+        let (_, to) = self.ends(channel)?;
+        let receipt = self.receipt(channel).ok_or(Stop::Refused(10))?;
+        require(receipt != Receipt::MarkerOnClosed, 14)?;
+        if let Entry::Message { body, .. } = self.channels[channel][0] {
+            self.log(receipt, channel, body, power)?;
+        }
+        if let Receipt::MarkerMarks | Receipt::MessageMarks = receipt {
+            self.mark(to);
+        }
+        match self.channels[channel].pop_front() {
+            Some(Entry::Message { body, .. }) => {
+                self.words[to] = taken(self.words[to], body);
+                Ok(Outcome::Took(body))
+            }
+            _ => {
+                self.closed[channel] |= self.phase == Phase::Logical;
+                Ok(Outcome::Marker)
+            }
+        }
+    }
+
+    /// The rule that a receive on this planned channel falls under; none where
+    /// the channel is empty.
+    pub fn receipt(&self, channel: usize) -> Option<Receipt> {
+        let (_, to) = self.topology.channels[channel];
+        let first = self.channels[channel].front()?;
+        Some(match (self.phase, *first) {
+            (Phase::Logical, Entry::Marker) if self.closed[channel] => Receipt::MarkerOnClosed,
+            (Phase::Logical, Entry::Marker) if self.marked[to] => Receipt::MarkerCloses,
+            (Phase::Logical, Entry::Marker) => Receipt::MarkerMarks,
+            (_, Entry::Marker) => Receipt::MarkerDropped,
+            (Phase::Logical, Entry::Message { tag, .. }) => {
+                match (tag == self.tags[to], self.marked[to]) {
+                    (true, false) => Receipt::UnmarkedLogs,
+                    (true, true) => Receipt::MarkedPlain,
+                    (false, false) => Receipt::MessageMarks,
+                    (false, true) => Receipt::ChannelLogs,
+                }
+            }
+            (Phase::Physical { next }, _) if to < next => Receipt::CopiedLogs,
+            _ => Receipt::Plain,
+        })
+    }
+
+    /// Logs a body where the rule says so: 11, or the two stores and the count.
+    fn log(
+        &mut self,
+        receipt: Receipt,
+        channel: usize,
+        body: u32,
+        power: &mut Power,
+    ) -> Result<(), Stop> {
+        let (_, to) = self.topology.channels[channel];
+        let line = self.line.wrapping_add(1);
+        match receipt {
+            Receipt::CopiedLogs | Receipt::UnmarkedLogs => {
+                let count = self.message_counts[to];
+                require(count < MESSAGE_LOG, 11)?;
+                power.append(store::message_log(line, to), count, body)?;
+                self.message_counts[to] += 1;
+            }
+            Receipt::ChannelLogs => {
+                let count = self.channel_counts[channel];
+                require(count < CHANNEL_LOG, 11)?;
+                power.append(store::channel_log(line, channel), count, body)?;
+                self.channel_counts[channel] += 1;
+            }
+            _ => (),
+        }
+        Ok(())
+    }
+
+    fn begin(&mut self, power: &mut Power) -> Result<(), Stop> {
+        require(self.phase == Phase::Idle, 12)?;
+        require(self.line != u32::MAX, 13)?;
+        for p in 0..self.topology.processes {
+            power.put(store::message_log(self.line + 1, p), 0)?;
+        }
+        for c in 0..self.topology.channels.len() {
+            power.put(store::channel_log(self.line + 1, c), 0)?;
+        }
+        self.message_counts.fill(0);
+        self.channel_counts.fill(0);
+        self.phase = Phase::Physical { next: 0 };
+        Ok(())
+    }
+
+    fn physical_checkpoint(&mut self, process: usize, power: &mut Power) -> Result<(), Stop> {
+        require(process < self.topology.processes, 8)?;
+        require(self.phase == Phase::Physical { next: process }, 12)?;
+        power.put(store::checkpoint(self.line + 1, process), self.words[process])?;
+        let next = process + 1;
+        if next < self.topology.processes {
+            self.phase = Phase::Physical { next };
+        } else {
+            self.clear_round();
+            self.phase = Phase::Logical;
+        }
+        Ok(())
+    }
+
+    fn logical_checkpoint(&mut self, process: usize) -> Result<(), Stop> {
+        require(process < self.topology.processes, 8)?;
+        let turn = process == 0 || self.marked[0];
+        require(self.phase == Phase::Logical && !self.marked[process] && turn, 12)?;
+        self.mark(process);
+        Ok(())
+    }
+
+    /// Marking turns the process's tag over.
+    fn mark(&mut self, process: usize) {
+        self.marked[process] = true;
+        self.tags[process] = !self.tags[process];
+    }
+
+    fn send_marker(&mut self, channel: usize) -> Result<(), Stop> {
+        let (from, _) = self.ends(channel)?;
+        let due = self.marked[from] && !self.marker_sent[channel];
+        require(self.phase == Phase::Logical && due, 12)?;
+        require(self.channels[channel].len() < CAPACITY, 9)?;
+        self.channels[channel].push_back(Entry::Marker);
+        self.marker_sent[channel] = true;
+        Ok(())
+    }
+
+    fn commit(&mut self, power: &mut Power) -> Result<(), Stop> {
+        let ready = self.all_marked() && self.all_closed();
+        require(self.phase == Phase::Logical && ready, 12)?;
+        power.put(LINE, self.line + 1)?;
+        self.line += 1;
+        self.clear_round();
+        self.phase = Phase::Idle;
+        Ok(())
+    }
+
+    fn abort(&mut self) -> Result<(), Stop> {
+        require(self.phase != Phase::Idle, 12)?;
+        let planned = self.topology.channels.len();
+        for entries in &mut self.channels[..planned] {
+            entries.retain(|entry| *entry != Entry::Marker);
+            for entry in entries {
+                if let Entry::Message { tag, .. } = entry {
+                    *tag = false;
+                }
+            }
+        }
+        self.tags.fill(false);
+        self.clear_round();
+        self.phase = Phase::Idle;
+        Ok(())
+    }
+}
