@@ -65,9 +65,21 @@ module _ (c : Channel) (full : 0 < c .count) where
       rw e (tabulate-cong (c .count - 1) (entryAt r) (λ i. entryAt c (suc i)) (λ i l. rw add-one at (h i l)))
       ∙ ap (drop 1) (sym entries-split)
 
-pub messages-append : (t : Bool) (xs ys : List ℕ) → messages t (xs ++ ys) ≡ messages t xs ++ messages t ys
+messages-append : (t : Bool) (xs ys : List ℕ) → messages t (xs ++ ys) ≡ messages t xs ++ messages t ys
 unfolding messages
 messages-append t xs ys = map-append (λ b. Message b t) xs ys
+
+messages-tabulate : (n : ℕ) (f : ℕ → ℕ) → tabulate n (λ i. Message (f i) false) ≡ messages false (tabulate n f)
+unfolding tabulate messages
+messages-tabulate zero f = refl
+messages-tabulate (suc n) f = rw (messages-tabulate n f) (sym (messages-append false (tabulate n f) (f n ∷ [])))
+
+-- messages alone, tagged 0: every kind is 0, and the bodies are f's values
+pub entries-messages : (c : Channel) (f : ℕ → ℕ) → ((i : ℕ) → i < c .count → getD (c .kinds) i 0 ≡ 0)
+    → ((i : ℕ) → i < c .count → getD (c .bodies) i 0 ≡ f i) → entries c ≡ messages false (tabulate (c .count) f)
+unfolding entries entryOf
+entries-messages c f k b =
+    tabulate-cong (c .count) (entryAt c) (λ i. Message (f i) false) (λ i l. rw (k i l, b i l)) ∙ messages-tabulate (c .count) f
 
 -- the body of a place, by its kind
 body-of-message : (k b : ℕ) → k < 2 → bodies (entryOf k b ∷ []) ≡ b ∷ []

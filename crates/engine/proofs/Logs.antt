@@ -1,15 +1,11 @@
--- Laws of a log that is read body by body, a process's message log and a channel's log alike: what one body more makes of a word and of a channel.
+-- Laws of a log that is read body by body: what one body more makes of a word.
 use Prim.Native.Nat.{ℕ, _+_}
 use mathlib.Core.Path.{_≡_, refl}
-use mathlib.Core.Bool.{false}
 use mathlib.Core.List.{List, [], _∷_, _++_}
-use Rattle.model.specs.declared.Entry.the-variants.{Message}
 use Rattle.model.specs.Notation.{tabulate}
-use Rattle.model.specs.Channel.{messages}
 use Rattle.model.specs.Layout.{cell}
 use Rattle.model.specs.Word.{enter, replay}
 use Rattle.engine.proofs.Lists.{tabulate-more}
-use Rattle.engine.proofs.Channels.{messages-append}
 
 -- the first n bodies of the log whose count stands in the cell at
 abbrev pub logBelow : ℕ → List ℕ → ℕ → List ℕ
@@ -20,11 +16,7 @@ unfolding replay
 replay-append word b [] = refl
 replay-append word b (x ∷ bs) = replay-append (enter word x) b bs
 
--- one body more, in the word and in a channel
-module _ (store : List ℕ) (at i : ℕ) where
-  pub replay-more : (word : ℕ) → replay word (logBelow (i + 1) store at) ≡ enter (replay word (logBelow i store at)) (cell store (at + 1 + i))
-  replay-more word = rw (tabulate-more i (λ j. cell store (at + 1 + j))) (replay-append word (cell store (at + 1 + i)) (logBelow i store at))
-
-  pub messages-more : messages false (logBelow (i + 1) store at) ≡ messages false (logBelow i store at) ++ (Message (cell store (at + 1 + i)) false ∷ [])
-  unfolding messages
-  messages-more = rw (tabulate-more i (λ j. cell store (at + 1 + j))) (messages-append false (logBelow i store at) (cell store (at + 1 + i) ∷ []))
+-- one body more
+pub replay-more : (store : List ℕ) (at i word : ℕ)
+    → replay word (logBelow (i + 1) store at) ≡ enter (replay word (logBelow i store at)) (cell store (at + 1 + i))
+replay-more store at i word = rw (tabulate-more i (λ j. cell store (at + 1 + j))) (replay-append word (cell store (at + 1 + i)) (logBelow i store at))

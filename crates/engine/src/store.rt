@@ -1,8 +1,6 @@
 // The store under a budget of writes, of which each function hands back what is left; and the reading of a log.
-use crate::channel;
 use crate::word;
 use model::Channel;
-use model::Entry;
 ghost use mathlib.Core.Path.{_≡_};
 ghost use mathlib.Core.Bool.{false};
 ghost use mathlib.Core.List.{[], _∷_};
@@ -70,17 +68,15 @@ pub fn fill(store: &[u32], at: usize) -> Channel
     ensures { λ r. ⌜ entries r ≡ messages false (logFrom (now (store .entry)) at) ⌝ }
 {
     let n = store[at] as usize;
-    let mut r = channel::empty();
+    let mut bodies = [0; 8];
     let mut i = 0;
     while i < n {
-        r = channel::push(
-            r,
-            Entry::Message {
-                body: store[at + 1 + i],
-                tag: false,
-            },
-        );
+        bodies[i] = store[at + 1 + i];
         i += 1;
     }
-    r
+    Channel {
+        bodies,
+        kinds: [0; 8],
+        count: n as u8,
+    }
 }

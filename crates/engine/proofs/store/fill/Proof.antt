@@ -1,22 +1,33 @@
--- `engine::store::fill` meets its contract. The loop's invariant: the channel holds the first i bodies as messages.
+-- `engine::store::fill` meets its contract. The loop's invariant: the first i bodies are the log's.
 use borrow.Author.Needs.{needs}
 use native.Mathlib.Omega.{arith}
-use Prim.Native.Nat.{_-_, _≤_}
-use mathlib.Core.Path.{_≡_, refl, sym, _∙_}
-use mathlib.Core.Bool.{false}
-use Rattle.model.specs.Notation.{tabulate}
-use Rattle.model.specs.Channel.{entries, messages}
-use Rattle.model.specs.State.{emptyChannel}
+use Prim.Native.Nat.{ℕ, _+_, _-_, _<_, _≤_}
+use mathlib.Core.Path.{_≡_, refl, _∙_}
+use mathlib.Core.List.{List}
+use lib.ListN.{length, getD, set, length-set, getD-replicate}
+use lib.Seq.{getD-set-same, getD-set-other}
 use Rattle.model.specs.Layout.{cell, logFrom}
-use Rattle.engine.proofs.Logs.{logBelow, messages-more}
+use Rattle.model.proofs.laws.Laws.{Indices, indices, same, other}
+use Rattle.engine.proofs.Channels.{entries-messages}
 use Rattle.engine.proofs.store.fill.Statement.{statement}
 use Rattle.engine.proofs.store.fill.Tie as tie
 
+-- the first n of the list are the bodies of the log whose count stands in the cell at
+abbrev Filled : List ℕ → ℕ → List ℕ → ℕ → Type 0
+Filled bs n store at = (j : ℕ) → j < n → getD bs j 0 ≡ cell store (at + 1 + j)
+
+filled-more : (bs store : List ℕ) (n at : ℕ) → n < length bs → Filled bs n store at → Filled (set bs n (cell store (at + 1 + n))) (n + 1) store at
+filled-more bs store n at h f j l = go (indices j n)
+  where
+    go : Indices j n → getD (set bs n (cell store (at + 1 + n))) j 0 ≡ cell store (at + 1 + j)
+    go (same e) = rw e (getD-set-same bs n (cell store (at + 1 + n)) 0 h)
+    go (other q) = getD-set-other bs n j (cell store (at + 1 + n)) 0 q ∙ f j (omega (arith, q))
+
 abbrev Inv-loop : tie.InvT-loop
-Inv-loop store at n r₀ i₀ r i = (i ≤ n) × (r .count ≡ i) × (entries r ≡ messages false (logBelow i store at))
+Inv-loop store at n bodies₀ i₀ bodies i = (i ≤ n) × (length bodies ≡ 8) × Filled bodies i store at
 
 abbrev μ-loop : tie.MeasureT-loop
-μ-loop store at n r₀ i₀ r i = n - i
+μ-loop store at n bodies₀ i₀ bodies i = n - i
 
 mul-n : tie.Need-mul-n Inv-loop μ-loop
 unfolding cell
@@ -30,35 +41,36 @@ cast-n : tie.Need-cast-n Inv-loop μ-loop
 unfolding cell
 cast-n c = omega arith
 
-empty-requires : tie.Need-empty-requires Inv-loop μ-loop
-empty-requires c κs = search needs
-
 loop-holds : tie.Need-loop-holds Inv-loop μ-loop
-unfolding emptyChannel entries tabulate messages
-loop-holds c = rw (c .empty .ensures) (omega arith, refl, refl)
+loop-holds c = (omega arith, refl, λ j l. absurd (omega arith))
 
-add-t10 : tie.Need-add-t10 Inv-loop μ-loop
+add-bodies : tie.Need-add-bodies Inv-loop μ-loop
 unfolding cell
-add-t10 c = omega arith
+add-bodies c = omega arith
 
-add-t11 : tie.Need-add-t11 Inv-loop μ-loop
+add-bodies-2 : tie.Need-add-bodies-2 Inv-loop μ-loop
 unfolding cell
-add-t11 c = omega arith
+add-bodies-2 c = omega arith
 
-mul-t12 : tie.Need-mul-t12 Inv-loop μ-loop
+mul-bodies : tie.Need-mul-bodies Inv-loop μ-loop
 unfolding cell
-mul-t12 c = omega arith
+mul-bodies c = omega arith
 
-shared-slice-read-t14 : tie.Need-shared-slice-read-t14 Inv-loop μ-loop
+shared-slice-read-bodies : tie.Need-shared-slice-read-bodies Inv-loop μ-loop
 unfolding cell
-shared-slice-read-t14 c = omega arith
+shared-slice-read-bodies c = omega arith
 
-push-requires : tie.Need-push-requires Inv-loop μ-loop
+mul-bodies-2 : tie.Need-mul-bodies-2 Inv-loop μ-loop
 unfolding cell
-push-requires c κs = omega arith
+mul-bodies-2 c = omega arith
+
+array-write-bodies : tie.Need-array-write-bodies Inv-loop μ-loop
+unfolding cell
+array-write-bodies c = omega arith
 
 add-i : tie.Need-add-i Inv-loop μ-loop
-add-i c = search needs
+unfolding cell
+add-i c = omega arith
 
 loop-less : tie.Need-loop-less Inv-loop μ-loop
 loop-less c = search needs
@@ -66,17 +78,23 @@ loop-less c = search needs
 loop-again : tie.Need-loop-again Inv-loop μ-loop
 unfolding cell
 loop-again c =
-    let l = c .before .before .before .loop in
-    let a = c .before .before .before .before .before .before .before .args in
-    (omega arith, omega (arith, c .push .ensures .1), c .push .ensures .0 ∙ rw (l .inv .2) (sym (messages-more (a .store .now) (a .at) (l .i))))
+    let l = c .before .before .loop in
+    let a = c .before .before .before .before .args in
+    let inside : l .i < length (l .bodies) = omega arith in
+    (omega arith, simp length-set (l .inv .1), filled-more (l .bodies) (a .store .now) (l .i) (a .at) inside (l .inv .2))
+
+cast-t20 : tie.Need-cast-t20 Inv-loop μ-loop
+unfolding cell
+cast-t20 c = omega arith
 
 returns : tie.Need-returns Inv-loop μ-loop
 unfolding cell logFrom
 returns c =
     let l = c .before .loop in
-    let a = c .before .before .before .before .before .args in
-    let e : l .i ≡ cell (a .store .now) (a .at) = omega arith in
-    rw e at (l .inv .2)
+    let a = c .before .before .before .args in
+    entries-messages _ (λ i. cell (a .store .now) (a .at + 1 + i))
+    (λ j h. getD-replicate 8 j 0 0 (omega arith))
+    (λ j h. l .inv .2 j (omega arith))
 
 pub fill-spec : {M : Type 1} → statement M
 fill-spec =
@@ -87,14 +105,15 @@ fill-spec =
     mul-n
     shared-slice-read-n
     cast-n
-    empty-requires
     loop-holds
-    add-t10
-    add-t11
-    mul-t12
-    shared-slice-read-t14
-    push-requires
+    add-bodies
+    add-bodies-2
+    mul-bodies
+    shared-slice-read-bodies
+    mul-bodies-2
+    array-write-bodies
     add-i
     loop-less
     loop-again
+    cast-t20
     returns)
