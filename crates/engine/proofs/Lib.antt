@@ -21,5 +21,5 @@ pub mod Layouts
 pub mod Recovers
 pub mod Starts
 pub mod ReceiveFacts
-pub mod ReceiveViews
+pub mod Attempts
 pub mod ReceiveCases

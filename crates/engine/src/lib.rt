@@ -4,6 +4,7 @@ mod begin;
 mod channel;
 mod commit;
 mod dispatch;
+mod entry;
 mod fresh;
 mod layout;
 mod log;

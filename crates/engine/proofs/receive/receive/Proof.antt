@@ -1,33 +1,72 @@
--- `engine::receive::receive` meets its contract: it refuses, or the part that it calls has done the step.
+-- `engine::receive::receive` meets its contract: no such channel, an attempt that was stopped, or one that came off, after which every part of the
+-- state is as the definition has it.
 use borrow.Author.Needs.{needs}
 use native.Mathlib.Omega.{arith}
-use mathlib.Core.Path.{_≡_, sym, ap, _∙_}
+use Prim.Native.Nat.{ℕ, zero, suc, _<_}
+use mathlib.Core.Path.{_≡_, refl, sym, ap, _∙_}
+use mathlib.Core.List.{_∷_}
+use lib.ListN.{getD, drop}
+use Rattle.model.specs.declared.State.{State}
+use Rattle.model.specs.declared.Channel.{Channel}
 use Rattle.model.specs.declared.Entry.{Entry}
+use Rattle.model.specs.Notation.{tabulate}
 use Rattle.model.specs.Topology.{receiver}
-use Rattle.model.specs.State.{view, viewProgress}
-use Rattle.model.specs.Step.{logFor}
-use Rattle.engine.specs.Needed.{neededLog}
-use Rattle.engine.specs.Receiving.{Receiving}
+use Rattle.model.specs.Channel.{entries}
+use Rattle.model.specs.State.{view, viewProgress, viewCounts}
+use Rattle.model.specs.Step.{nextLine}
+use Rattle.engine.specs.Receiving.{Within, firstly, countsAfter}
 use Rattle.engine.proofs.Lengths.{lengths}
-use Rattle.engine.proofs.Promises.{quiet-meets, performs-refused}
-use Rattle.engine.proofs.ReceiveCases.{receive-missing, receive-empty}
-use Rattle.engine.proofs.ReceiveFacts.{Known, known, empty-read, first-read}
+use Rattle.engine.proofs.StoreBounds.{next-line-fits}
+use Rattle.engine.proofs.Views.{channel-read}
+use Rattle.engine.proofs.Promises.{performs-refused}
+use Rattle.engine.proofs.ReceiveCases.{settingOf, received, receive-missing}
+use Rattle.engine.proofs.ReceiveFacts.{Known, known, first-read, room-read, raisable, seen}
+use Rattle.engine.proofs.Attempts.{attempts-read, passed-unrefused, received-first, receive-stopped, receive-passed}
 use Rattle.engine.proofs.receive.receive.Statement.{statement}
 use Rattle.engine.proofs.receive.receive.Tie as tie
 
-facts : (c : tie.Else1) → Known (c .before .before .before .args .t1) (c .before .before .before .args .channel)
-facts c =
-    let b : tie.Start = c .before .before .before in
-    known (b .args .t1) (b .args .channel) (b .pre .0) (c .if1 .left) (lengths (b .args .t1) _ (b .good .0))
+-- behind the refusal of a missing channel
+abbrev S : tie.Else1 → State
+S d = d .before .before .before .args .t1
 
-receiving : (c : tie.After-first) (e : Entry) → c .first .result ≡ e → Receiving (c .before .before .before .before .before .before .before .args .t1) (c .before .before .before .before .before .before .before .args .channel) e
-receiving c e h =
-    let b : tie.Start = c .before .before .before .before .before .before .before in
-    record {
-      sounds = b .pre .0;
-      planned = c .before .before .before .before .if1 .left;
-      first = first-read (b .args .t1) (b .args .channel) _ e (facts (c .before .before .before .before) .within) (rw h at (c .first .ensures));
-    }
+abbrev C : tie.Else1 → ℕ
+C d = d .before .before .before .args .channel
+
+facts : (d : tie.Else1) → Known (S d) (C d)
+facts d = known (S d) (C d) (d .before .before .before .pre .0) (d .if1 .left) (lengths (S d) _ (d .before .before .before .good .0))
+
+within : (d : tie.Else1) → Within (settingOf (view (S d)) (C d))
+unfolding view receiver nextLine
+within d =
+    record { channel = facts d .below; receiver = facts d .receiver; line = λ e l. next-line-fits (view (S d)) (d .before .before .before .pre .0) e l }
+
+-- once the attempt is made
+abbrev planned : tie.After-attempt → tie.Else1
+planned a = a .before .before .before .before .before .before .before .before .before .before .before
+
+-- it came off
+abbrev tried : tie.Then2 → tie.After-attempt
+tried t = t .before .before .before
+
+positive : (n : ℕ) → (n ≡ 0 → ⊥) → 0 < n
+positive zero f = absurd (f refl)
+positive (suc n) f = omega arith
+
+-- the entry is there
+has-entry : (t : tie.Then2) (d : Channel) → 0 < getD (S (planned (tried t)) .channels) (C (planned (tried t))) d .count
+unfolding view viewProgress receiver entries tabulate
+has-entry t d =
+    let a : tie.After-attempt = tried t in
+    let l = facts (planned a) .within in
+    positive _ (λ z. received-first _ _ _ _ _ _ _ (attempts-read (S (planned a)) (C (planned a)) _ _ _ _ _ (facts (planned a) .within) (a .attempt .ensures)) (t .if2 .taken) (channel-read (S (planned a)) (C (planned a)) d l ∙ rw z))
+
+abbrev E : tie.After-first → Entry
+E f = f .first .result
+
+first-is : (f : tie.After-first) → view (S (planned (tried (f .before)))) .channel (C (planned (tried (f .before)))) ≡ E f ∷ drop 1 (view (S (planned (tried (f .before)))) .channel (C (planned (tried (f .before)))))
+first-is f =
+    let d : tie.Else1 = planned (tried (f .before)) in
+    first-read (S d) (C d) _ (E f) (facts d .within) (f .first .ensures)
 
 returns : tie.Need-returns
 unfolding view
@@ -39,72 +78,110 @@ mul-c c = search needs
 element-copy-out-c : tie.Need-element-copy-out-c
 element-copy-out-c c = facts c .below
 
-returns-2 : tie.Need-returns-2
-unfolding view
-returns-2 c =
-    let b : tie.Start = c .before .before .before .before .before .before in
-    performs-refused (b .args .t1) _ _ _ _
-    (receive-empty (view (b .args .t1)) (b .args .channel) (c .before .before .before .if1 .left) (empty-read (b .args .t1) (b .args .channel) _ (facts (c .before .before .before) .within) (c .if2 .taken)))
-
-first-requires : tie.Need-first-requires
-first-requires c κs = search needs
-
-enum-known-body : tie.Need-enum-known-body
-enum-known-body c = search needs
-
-enum-told : tie.Need-enum-told
-enum-told c = search needs
-
-marker-requires : tie.Need-marker-requires
-marker-requires c κs = receiving (c .before .before) _ (c .enum-told .given .1)
-
-returns-3 : tie.Need-returns-3
-returns-3 c = quiet-meets _ _ _ _ _ (c .marker .ensures)
-
-element-copy-out-receiver : tie.Need-element-copy-out-receiver
-element-copy-out-receiver c = facts (c .before .before .before .before .before .before .before .before) .below
+element-copy-out-to : tie.Need-element-copy-out-to
+element-copy-out-to c = facts (c .before) .below
 
 cast-to : tie.Need-cast-to
-cast-to c = omega (arith, facts (c .before .before .before .before .before .before .before .before .before) .receiver)
+cast-to c = search needs
 
-element-copy-out-own : tie.Need-element-copy-out-own
-element-copy-out-own c = facts (c .before .before .before .before .before .before .before .before .before) .receiver
+element-copy-out-if2 : tie.Need-element-copy-out-if2
+element-copy-out-if2 c = facts (c .before .before .before .before) .below
 
-element-copy-out-log-for : tie.Need-element-copy-out-log-for
-element-copy-out-log-for c = facts (c .before .before .before .before .before .before .before .before .before .before .before) .receiver
+element-copy-out-t16 : tie.Need-element-copy-out-t16
+element-copy-out-t16 c = facts (c .before .before .before .before .before) .below
 
-log-for-requires : tie.Need-log-for-requires
-log-for-requires c κs = search needs
+element-copy-out-t35 : tie.Need-element-copy-out-t35
+element-copy-out-t35 c = facts (c .before .before .before .before .before .before) .receiver
 
-enum-told-2 : tie.Need-enum-told-2
-enum-told-2 c = search needs
+element-copy-out-t38 : tie.Need-element-copy-out-t38
+element-copy-out-t38 c = facts (c .before .before .before .before .before .before .before) .receiver
 
-unlogged-requires : tie.Need-unlogged-requires
-unfolding logFor view viewProgress receiver neededLog
-unlogged-requires c κs = (receiving (c .before .before .before .before .before .before .before .before .before .before .before) _ (c .before .before .before .before .before .before .before .before .before .body .given .1), sym (c .before .before .log-for .ensures) ∙ ap neededLog (c .enum-told2 .given .1))
+attempt-requires : tie.Need-attempt-requires
+unfolding view viewProgress receiver
+attempt-requires c κs =
+    let d : tie.Else1 = c .before .before .before .before .before .before .before .before .before .before in
+    (within d, d .before .before .before .pre .1)
 
-enum-known-log : tie.Need-enum-known-log
-enum-known-log c = search needs
+first-requires : tie.Need-first-requires
+first-requires c κs = has-entry c _
 
-logged-requires : tie.Need-logged-requires
-unfolding logFor view viewProgress receiver neededLog
-logged-requires c κs = (
-  record {
-    tag = c .before .before .before .before .before .before .before .before .before .before .before .body .given .0 .1 .0;
-    receiving = receiving (c .before .before .before .before .before .before .before .before .before .before .before .before .before) _ (c .before .before .before .before .before .before .before .before .before .before .before .body .given .1);
-    needed = sym (c .before .before .before .before .log-for .ensures) ∙ ap neededLog (c .before .before .log .given .1);
-  },
-  c .before .before .before .before .before .before .before .before .before .before .before .before .before .before .before .before .before .before .before .before .pre .1,
-)
+pop-requires : tie.Need-pop-requires
+pop-requires c κs =
+    let t : tie.Then2 = c .before in
+    let d : tie.Else1 = planned (tried t) in
+    (has-entry t _, room-read (S d) (C d) _ (d .before .before .before .pre .0) (d .if1 .left) (facts d .within))
 
-returns-4 : tie.Need-returns-4
-returns-4 c = quiet-meets _ _ _ _ _ (c .unlogged .ensures)
+mul-t43 : tie.Need-mul-t43
+mul-t43 c = search needs
+
+element-set-from-s : tie.Need-element-set-from-s
+element-set-from-s c = facts (planned (tried (c .before .before))) .below
+
+mul-word-after : tie.Need-mul-word-after
+mul-word-after c = omega (arith, facts (planned (tried (c .before .before))) .receiver)
+
+element-copy-out-word-after : tie.Need-element-copy-out-word-after
+element-copy-out-word-after c = facts (planned (tried (c .before .before))) .receiver
+
+word-after-requires : tie.Need-word-after-requires
+word-after-requires c κs = search needs
+
+mul-s : tie.Need-mul-s
+mul-s c = omega (arith, facts (planned (tried (c .before .before .before .before))) .receiver)
+
+element-write-s : tie.Need-element-write-s
+element-write-s c = facts (planned (tried (c .before .before .before .before))) .receiver
+
+tag-after-requires : tie.Need-tag-after-requires
+tag-after-requires c κs = search needs
+
+element-write-s-2 : tie.Need-element-write-s-2
+element-write-s-2 c = facts (planned (tried (c .before .before .before .before .before))) .receiver
+
+flags-after-requires : tie.Need-flags-after-requires
+unfolding view viewProgress receiver
+flags-after-requires c κs = within (planned (tried (c .before .before .before .before .before)))
+
+needed-requires : tie.Need-needed-requires
+needed-requires c κs = search needs
+
+counts-after-requires : tie.Need-counts-after-requires
+unfolding view viewProgress receiver
+counts-after-requires c κs =
+    let f : tie.After-first = c .before .before .before .before .before .before .before in
+    let a : tie.After-attempt = tried (f .before) in
+    rw (c .needed .ensures)
+    (raisable _ _ (E f) (within (planned a)) (passed-unrefused _ _ _ _ _ _ _ ((attempts-read (S (planned a)) (C (planned a)) _ _ _ _ _ (facts (planned a) .within) (a .attempt .ensures)) .first (E f) _ (first-is f)) (f .before .if2 .taken)))
 
 same-length : tie.Need-same-length
-same-length c = search needs
+same-length c =
+    let t : tie.Then2 = c .before .before .before .before .before .before .before .before .before in
+    search (needs, t .before .slice-known2, t .before .before .store, tried t .attempt)
 
-returns-5 : tie.Need-returns-5
-returns-5 c = search needs
+-- every part of the state is as the definition has it
+returns-2 : tie.Need-returns-2
+unfolding view viewProgress receiver firstly
+returns-2 c =
+    let flagged : tie.After-flags-after = c .before .before .before in
+    let tagged : tie.After-tag-after = flagged .before in
+    let popped : tie.After-pop = tagged .before .before .before in
+    let f : tie.After-first = popped .before in
+    let a : tie.After-attempt = tried (f .before) in
+    let d : tie.Else1 = planned a in
+    let left = popped .pop .ensures ∙ ap (drop 1) (sym (channel-read (S d) (C d) _ (facts d .within))) in
+    let counted = c .counts-after .ensures ∙ λ i. countsAfter (c .before .needed .ensures i) (viewCounts (S d .counts)) in
+    receive-passed (S d) (C d) (d .if1 .left) _ _ _ _ (attempts-read (S (planned a)) (C (planned a)) _ _ _ _ _ (facts (planned a) .within) (a .attempt .ensures)) (f .before .if2 .taken) (E f) _ (first-is f) _
+    (seen (S d) (C d) (popped .pop .result) (tagged .before .word-after .result) (tagged .tag-after .result) (flagged .flags-after .result) (c .counts-after .result) (facts d)
+    ∙ λ i. received (view (S d)) (C d) (left i) (tagged .before .word-after .ensures i) (tagged .tag-after .ensures i) (flagged .flags-after .ensures i) (counted i))
+
+same-length-2 : tie.Need-same-length-2
+same-length-2 c = search needs
+
+returns-3 : tie.Need-returns-3
+unfolding view viewProgress receiver
+returns-3 c =
+    let a : tie.After-attempt = c .before .before .before in
+    receive-stopped (S (planned a)) (C (planned a)) (planned a .if1 .left) _ _ _ _ (attempts-read (S (planned a)) (C (planned a)) _ _ _ _ _ (facts (planned a) .within) (a .attempt .ensures)) (c .if2 .left)
 
 pub receive-spec : {M : Type 1} → statement M
 receive-spec =
@@ -113,21 +190,28 @@ receive-spec =
     returns
     mul-c
     element-copy-out-c
-    returns-2
-    first-requires
-    enum-known-body
-    enum-told
-    marker-requires
-    returns-3
-    element-copy-out-receiver
+    element-copy-out-to
     cast-to
-    element-copy-out-own
-    element-copy-out-log-for
-    log-for-requires
-    enum-told-2
-    unlogged-requires
-    enum-known-log
-    logged-requires
-    returns-4
+    element-copy-out-if2
+    element-copy-out-t16
+    element-copy-out-t35
+    element-copy-out-t38
+    attempt-requires
+    first-requires
+    pop-requires
+    mul-t43
+    element-set-from-s
+    mul-word-after
+    element-copy-out-word-after
+    word-after-requires
+    mul-s
+    element-write-s
+    tag-after-requires
+    element-write-s-2
+    flags-after-requires
+    needed-requires
+    counts-after-requires
     same-length
-    returns-5)
+    returns-2
+    same-length-2
+    returns-3)

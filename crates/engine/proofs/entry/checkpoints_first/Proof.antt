@@ -1,8 +1,8 @@
--- `engine::receive::checkpoints_first` meets its contract, phase by phase.
+-- `engine::entry::checkpoints_first` meets its contract, phase by phase.
 use borrow.Author.Needs.{needs}
 use Rattle.model.specs.Receive.{checkpointsFirst}
-use Rattle.engine.proofs.receive.checkpoints_first.Statement.{statement}
-use Rattle.engine.proofs.receive.checkpoints_first.Tie as tie
+use Rattle.engine.proofs.entry.checkpoints_first.Statement.{statement}
+use Rattle.engine.proofs.entry.checkpoints_first.Tie as tie
 
 enum-told : tie.Need-enum-told
 enum-told c = search needs

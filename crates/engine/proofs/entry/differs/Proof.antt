@@ -1,8 +1,8 @@
--- `engine::receive::differs` meets its contract, for a message and a marker.
+-- `engine::entry::differs` meets its contract, for a message and a marker.
 use borrow.Author.Needs.{needs}
 use Rattle.model.specs.Receive.{differs}
-use Rattle.engine.proofs.receive.differs.Statement.{statement}
-use Rattle.engine.proofs.receive.differs.Tie as tie
+use Rattle.engine.proofs.entry.differs.Statement.{statement}
+use Rattle.engine.proofs.entry.differs.Tie as tie
 
 enum-known-e : tie.Need-enum-known-e
 enum-known-e c = search needs

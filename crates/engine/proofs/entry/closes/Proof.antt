@@ -1,8 +1,8 @@
--- `engine::receive::closes` meets its contract, phase by phase.
+-- `engine::entry::closes` meets its contract, phase by phase.
 use borrow.Author.Needs.{needs}
 use Rattle.model.specs.Receive.{closes}
-use Rattle.engine.proofs.receive.closes.Statement.{statement}
-use Rattle.engine.proofs.receive.closes.Tie as tie
+use Rattle.engine.proofs.entry.closes.Statement.{statement}
+use Rattle.engine.proofs.entry.closes.Tie as tie
 
 enum-told : tie.Need-enum-told
 enum-told c = search needs
