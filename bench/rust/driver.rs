@@ -1,0 +1,166 @@
+//! The work that is measured, the same for both Rust programs and for crates/speed: the input says which, how often,
+//! over which topology and over what; the checksum is printed.
+
+use crate::types::*;
+use std::io::Read;
+
+pub trait Engine {
+    fn initialize(t: &Topology, store: &mut [u32]) -> Self;
+    fn step(&mut self, step: Step, store: &mut [u32], budget: u32) -> (Outcome, u32);
+    fn recover(&mut self, t: &Topology, store: &[u32]);
+    fn state(&self) -> &State;
+    fn read(bytes: &mut &[u8]) -> Result<Record, Refusal>;
+    fn write(record: Record, out: &mut [u8; 7]) -> usize;
+}
+
+const CELLS: usize = 3265;
+const STEPS: u8 = 1;
+const RECOVER: u8 = 2;
+const READ: u8 = 3;
+/// A step of a script: its kind, its process or channel, its body.
+const SCRIPTED: usize = 6;
+
+fn fold(sum: u32, value: u32) -> u32 {
+    sum.wrapping_mul(31).wrapping_add(value)
+}
+
+fn number(b: &[u8]) -> u32 {
+    u32::from_le_bytes([b[0], b[1], b[2], b[3]])
+}
+
+fn scripted(b: &[u8], turn: u32) -> Step {
+    let (index, body) = (b[1], number(&b[2..6]).wrapping_add(turn));
+    match b[0] {
+        1 => Step::Send { channel: index, body },
+        2 => Step::Receive { channel: index },
+        3 => Step::Begin,
+        4 => Step::PhysicalCheckpoint { process: index },
+        5 => Step::LogicalCheckpoint { process: index },
+        6 => Step::SendMarker { channel: index },
+        7 => Step::Commit,
+        _ => Step::Abort,
+    }
+}
+
+fn outcome_code(outcome: Outcome) -> u32 {
+    match outcome {
+        Outcome::Done => 1,
+        Outcome::Received(body) => body,
+        Outcome::ReceivedMarker => 2,
+        Outcome::Refused(refusal) => 100 + refusal as u32,
+        Outcome::PowerLost => 4,
+    }
+}
+
+fn record_code(record: Record) -> u32 {
+    match record {
+        Record::Call(Step::Send { channel, body }) => fold(channel as u32, body),
+        Record::Call(Step::Receive { channel }) => 1000 + channel as u32,
+        Record::Call(Step::Begin) => 3,
+        Record::Call(Step::PhysicalCheckpoint { process }) => 2000 + process as u32,
+        Record::Call(Step::LogicalCheckpoint { process }) => 3000 + process as u32,
+        Record::Call(Step::SendMarker { channel }) => 4000 + channel as u32,
+        Record::Call(Step::Commit) => 7,
+        Record::Call(Step::Abort) => 8,
+        Record::Recover => 9,
+    }
+}
+
+/// Words, channels and store.
+fn checksum(sum: u32, s: &State, store: &[u32]) -> u32 {
+    let mut sum = fold(sum, s.round.line);
+    for &word in &s.words {
+        sum = fold(sum, word);
+    }
+    for c in &s.channels {
+        sum = fold(sum, c.count as u32);
+        for i in 0..(c.count as usize).min(ROOM) {
+            sum = fold(fold(sum, c.kinds[i] as u32), c.bodies[i]);
+        }
+    }
+    store.iter().fold(sum, |sum, &cell| fold(sum, cell))
+}
+
+fn steps<E: Engine>(t: &Topology, times: u32, script: &[u8]) -> u32 {
+    let mut store = [0; CELLS];
+    let mut engine = E::initialize(t, &mut store);
+    let mut sum = 0;
+    for turn in 0..times {
+        for b in script.chunks_exact(SCRIPTED) {
+            let (outcome, made) = engine.step(scripted(b, turn), &mut store, u32::MAX);
+            sum = fold(fold(sum, outcome_code(outcome)), made);
+        }
+    }
+    checksum(sum, engine.state(), &store)
+}
+
+fn recovers<E: Engine>(t: &Topology, times: u32, cells: &[u8]) -> u32 {
+    let mut store = [0; CELLS];
+    let mut engine = E::initialize(t, &mut store);
+    for (cell, b) in store.iter_mut().zip(cells.chunks_exact(4)) {
+        *cell = number(b);
+    }
+    let mut sum = 0;
+    for turn in 0..times {
+        store[3] = turn;
+        engine.recover(t, &store);
+        let s = engine.state();
+        sum = fold(fold(sum, s.words[0]), s.channels[63].bodies[7]);
+    }
+    checksum(sum, engine.state(), &store)
+}
+
+fn reads<E: Engine>(times: u32, records: &mut [u8]) -> u32 {
+    let mut sum = 0;
+    for turn in 0..times {
+        if let Some(body) = records.get_mut(3) {
+            *body = (turn % 255) as u8 + 1;
+        }
+        let mut rest = &records[..];
+        while let Ok(record) = E::read(&mut rest) {
+            sum = fold(sum, record_code(record));
+        }
+        sum = fold(sum, rest.len() as u32);
+    }
+    sum
+}
+
+fn writes<E: Engine>(times: u32, script: &[u8]) -> u32 {
+    let mut out = [0u8; 65536];
+    let mut sum = 0;
+    for turn in 0..times {
+        let mut at = 0;
+        for b in script.chunks_exact(SCRIPTED) {
+            let record = Record::Call(scripted(b, turn));
+            let place: &mut [u8; 7] = (&mut out[at..at + 7]).try_into().unwrap();
+            at += E::write(record, place);
+        }
+        sum = fold(fold(sum, at as u32), out[at / 2] as u32);
+    }
+    out.iter().fold(sum, |sum, &b| fold(sum, b as u32))
+}
+
+pub fn run<E: Engine>() {
+    let mut input = Vec::new();
+    std::io::stdin().read_to_end(&mut input).unwrap();
+    let (mode, times) = (input[0], number(&input[1..5]));
+    let channels = input[6] as usize;
+    let mut t = Topology {
+        processes: input[5],
+        channels: input[6],
+        from: [0; CHANNELS],
+        to: [0; CHANNELS],
+    };
+    for c in 0..channels {
+        t.from[c] = input[7 + 2 * c];
+        t.to[c] = input[8 + 2 * c];
+    }
+    let rest = &mut input[7 + 2 * channels..];
+    let sum = match mode {
+        STEPS => steps::<E>(&t, times, rest),
+        RECOVER => recovers::<E>(&t, times, rest),
+        READ => reads::<E>(times, rest),
+        _ => writes::<E>(times, rest),
+    };
+    println!("{sum}");
+}

@@ -1,0 +1,140 @@
+//! The types that both Rust programs share: those of crates/model, field by field, and laid out as Rattle lays them out.
+
+pub const PROCESSES: usize = 16;
+pub const CHANNELS: usize = 64;
+pub const ROOM: usize = 8;
+
+#[repr(C)]
+#[derive(Clone, Copy)]
+pub struct Topology {
+    pub processes: u8,
+    pub channels: u8,
+    pub from: [u8; CHANNELS],
+    pub to: [u8; CHANNELS],
+}
+
+#[derive(Clone, Copy, PartialEq)]
+pub enum Phase {
+    Idle,
+    Physical(u8),
+    Logical,
+}
+
+#[repr(C)]
+#[derive(Clone, Copy)]
+pub struct Round {
+    pub line: u32,
+    pub phase: Phase,
+}
+
+#[derive(Clone, Copy, PartialEq)]
+pub enum Entry {
+    Message { body: u32, tag: bool },
+    Marker,
+}
+
+/// Kind 0 is a message tagged 0, kind 1 a message tagged 1, any other kind a marker.
+#[repr(C)]
+#[derive(Clone, Copy)]
+pub struct Channel {
+    pub bodies: [u32; ROOM],
+    pub kinds: [u8; ROOM],
+    pub count: u8,
+}
+
+#[repr(C)]
+#[derive(Clone, Copy)]
+pub struct Flags {
+    pub checkpointed: [bool; PROCESSES],
+    pub closed: [bool; CHANNELS],
+    pub sent: [bool; CHANNELS],
+}
+
+#[repr(C)]
+#[derive(Clone, Copy)]
+pub struct Counts {
+    pub messages: [u8; PROCESSES],
+    pub channels: [u8; CHANNELS],
+}
+
+#[repr(C)]
+#[derive(Clone, Copy)]
+pub struct State {
+    pub topology: Topology,
+    pub round: Round,
+    pub words: [u32; PROCESSES],
+    pub tags: [bool; PROCESSES],
+    pub channels: [Channel; CHANNELS],
+    pub flags: Flags,
+    pub counts: Counts,
+}
+
+#[derive(Clone, Copy)]
+pub enum Step {
+    Send { channel: u8, body: u32 },
+    Receive { channel: u8 },
+    Begin,
+    PhysicalCheckpoint { process: u8 },
+    LogicalCheckpoint { process: u8 },
+    SendMarker { channel: u8 },
+    Commit,
+    Abort,
+}
+
+#[derive(Clone, Copy)]
+pub enum Record {
+    Call(Step),
+    Recover,
+}
+
+/// Document 01's refusals, by their numbers.
+#[derive(Clone, Copy, PartialEq)]
+pub enum Refusal {
+    ProcessCount = 1,
+    ChannelCount,
+    UnknownEnd,
+    SelfChannel,
+    DoubledChannel,
+    ShortStore,
+    Malformed,
+    NoSuch,
+    ChannelFull,
+    ChannelEmpty,
+    LogFull,
+    NotNow,
+    LastLine,
+    MarkerOnClosed,
+    Unsound,
+    BadCount,
+}
+
+#[derive(Clone, Copy)]
+pub enum Outcome {
+    Done,
+    Received(u32),
+    ReceivedMarker,
+    Refused(Refusal),
+    PowerLost,
+}
+
+pub const EMPTY: Channel = Channel { bodies: [0; ROOM], kinds: [0; ROOM], count: 0 };
+
+pub const NO_FLAGS: Flags =
+    Flags { checkpointed: [false; PROCESSES], closed: [false; CHANNELS], sent: [false; CHANNELS] };
+
+pub const NO_COUNTS: Counts = Counts { messages: [0; PROCESSES], channels: [0; CHANNELS] };
+
+impl State {
+    /// The idle state at a line: no progress, no log counts, words and tags 0, channels empty.
+    pub fn idle(topology: Topology, line: u32) -> State {
+        State {
+            topology,
+            round: Round { line, phase: Phase::Idle },
+            words: [0; PROCESSES],
+            tags: [false; PROCESSES],
+            channels: [EMPTY; CHANNELS],
+            flags: NO_FLAGS,
+            counts: NO_COUNTS,
+        }
+    }
+}
