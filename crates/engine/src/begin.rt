@@ -71,7 +71,7 @@ fn clear(store: &mut [u32], budget: u32, t: Topology, line: u32) -> u32
     )
 }
 
-pub fn begin(s: State, store: &mut [u32], budget: u32) -> Answer
+pub fn begin(mut s: State, store: &mut [u32], budget: u32) -> Answer
     requires { ⌜ (sound (view s) ≡ true) × (storeCells ≤ length (now store)) ⌝ }
     ensures { λ r. ⌜ Performs s Begin (now (store .entry)) budget r (now (store .exit)) ⌝ }
 {
@@ -98,12 +98,11 @@ pub fn begin(s: State, store: &mut [u32], budget: u32) -> Answer
         phase: Phase::Physical(0),
     };
     let reset = fresh::counts();
-    let mut next = s;
-    next.round = after;
-    next.counts = reset;
+    s.round = after;
+    s.counts = reset;
     Answer {
         outcome: Outcome::Done,
         made: writes,
-        state: next,
+        state: s,
     }
 }

@@ -50,7 +50,7 @@ fn may_commit(phase: Phase, flags: Flags, processes: u8, channels: u8) -> bool
     }
 }
 
-pub fn commit(s: State, store: &mut [u32], budget: u32) -> Answer
+pub fn commit(mut s: State, store: &mut [u32], budget: u32) -> Answer
     requires { ⌜ (sound (view s) ≡ true) × (storeCells ≤ length (now store)) ⌝ }
     ensures { λ r. ⌜ Performs s Commit (now (store .entry)) budget r (now (store .exit)) ⌝ }
 {
@@ -79,12 +79,11 @@ pub fn commit(s: State, store: &mut [u32], budget: u32) -> Answer
         phase: Phase::Idle,
     };
     let reset = fresh::flags();
-    let mut next = s;
-    next.round = idle;
-    next.flags = reset;
+    s.round = idle;
+    s.flags = reset;
     Answer {
         outcome: Outcome::Done,
         made: 1,
-        state: next,
+        state: s,
     }
 }

@@ -64,7 +64,7 @@ fn round_after(round: Round, process: u8, processes: u8) -> Round
     }
 }
 
-pub fn physical_checkpoint(s: State, process: u8, store: &mut [u32], budget: u32) -> Answer
+pub fn physical_checkpoint(mut s: State, process: u8, store: &mut [u32], budget: u32) -> Answer
     requires { ⌜ (sound (view s) ≡ true) × (storeCells ≤ length (now store)) ⌝ }
     ensures { λ r. ⌜ Performs s (PhysicalCheckpoint process) (now (store .entry)) budget r (now (store .exit)) ⌝ }
 {
@@ -88,15 +88,14 @@ pub fn physical_checkpoint(s: State, process: u8, store: &mut [u32], budget: u32
         };
     }
     let after = round_after(round, process, t.processes);
-    let mut next = s;
-    next.round = after;
+    s.round = after;
     if t.processes <= process + 1 {
         let reset = fresh::flags();
-        next.flags = reset;
+        s.flags = reset;
     }
     Answer {
         outcome: Outcome::Done,
         made: 1,
-        state: next,
+        state: s,
     }
 }
