@@ -1,4 +1,5 @@
--- Document 01, "Cases": those with a star, as one table. Each row has what the definitions give and what document 01 says, as lines of numbers.
+-- Document 01, "Cases": those with a star, as one table. Each row has what the definitions give and what document 01
+-- says, as lines of numbers.
 use Prim.Native.Nat.{ℕ, _+_}
 use mathlib.Core.Bool.{Bool, false, cond}
 use mathlib.Core.List.{List, [], _∷_, _++_, map}
@@ -23,7 +24,8 @@ use Rattle.model.specs.Record.{Reading, fieldsOf, readRecord}
 use Rattle.model.specs.Program as program
 use Rattle.model.specs.Run.{Call, call, recovery, World, run, firstWorld}
 
--- The output's words as numbers: the code of the first letter. So a line of numbers reads as the program prints it, and no two lines look alike.
+-- The output's words as numbers: the code of the first letter. So a line of numbers reads as the program prints it, and
+-- no two lines look alike.
 abbrev pub done : ℕ
 done = 0x64
 
@@ -127,7 +129,8 @@ callOf r = callWith (r .budget) (r .content)
 unfoldable pub afterSteps : List ℕ → ℕ → World
 afterSteps bytes n =
     run (program.planOf bytes) (firstWorld (program.planOf bytes) (replicate storeCells 0))
-    (map callOf (take n (program.readAll program.full (length bytes) (drop (program.planLength bytes) bytes) .requests)))
+    (map callOf (take n (program.readAll program.full (length bytes)
+    (drop (program.planLength bytes) bytes) .requests)))
 
 -- what a step answers there
 unfoldable pub answerIn : World → Step → ℕ → Answered
@@ -143,7 +146,8 @@ thenRecover n a =
     answerLine n a
     ∷ outputNumbers
     (program.report (a .state .topology)
-    (program.session (a .state .topology) false (n + 1) (a .state) (a .store) (record { content = records.Recover; budget = program.fullBudget } ∷ [])))
+    (program.session (a .state .topology) false (n + 1) (a .state) (a .store)
+    (record { content = records.Recover; budget = program.fullBudget } ∷ [])))
 
 -- "a tag, 0 or 1"
 unfoldable pub tagNumber : Bool → ℕ
@@ -235,7 +239,9 @@ starred =
     }
     -- "Finish with 0 stores of current: cut, restart gives the old line. With 1: the new."
     ∷ record {
-      got = thenRecover 13 (answerIn (afterSteps input 12) Commit 0) ++ thenRecover 13 (answerIn (afterSteps input 12) Commit 1);
+      got =
+          thenRecover 13 (answerIn (afterSteps input 12) Commit 0) ++ thenRecover 13
+          (answerIn (afterSteps input 12) Commit 1);
       expected =
           (13 ∷ powerLost ∷ 0 ∷ [])
           ∷ (14 ∷ line ∷ 0 ∷ 0 ∷ [])
@@ -253,7 +259,9 @@ starred =
     }
     -- "Begin above with 3: cut, 3 made. With 4: done."
     ∷ record {
-      got = answerLine 1 (answerIn (afterSteps input 0) Begin 3) ∷ answerLine 1 (answerIn (afterSteps input 0) Begin 4) ∷ [];
+      got =
+          answerLine 1 (answerIn (afterSteps input 0) Begin 3) ∷ answerLine 1 (answerIn (afterSteps input 0) Begin 4) ∷
+          [];
       expected = (1 ∷ powerLost ∷ 3 ∷ []) ∷ (1 ∷ done ∷ 4 ∷ []) ∷ [];
     }
     -- "Word 4,294,967,295, body 1: 4,294,967,266."

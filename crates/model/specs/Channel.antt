@@ -1,25 +1,30 @@
--- Document 01's wire: a first in first out list of entries, each a message (body and tag) or a marker (note). The code's array is seen as that list.
+-- Document 01's wire: a first in first out list of entries, each a message (body and tag) or a marker (note). The
+-- code's array is seen as that list.
 use Prim.Native.Nat.{ℕ}
 use mathlib.Core.Bool.{Bool, true, false, cond}
 use mathlib.Core.List.{List, [], _∷_, map}
-use lib.ListN.{getD}
-use lib.Dec.{eqb}
+use lib.ListN.{getD, length}
+use lib.Dec.{eqb, leb}
 use Rattle.model.specs.declared.Channel.{Channel}
 use Rattle.model.specs.declared.Entry.{Entry}
 use Rattle.model.specs.declared.Entry.the-variants.{Message, Marker}
 use Rattle.model.specs.Notation.{tabulate}
 
 -- "holds at most 8 entries"
-unfoldable pub channelRoom : ℕ
+abbrev pub channelRoom : ℕ
 channelRoom = 8
 
 -- what a place's kind and body mean: kind 0 and 1 a message with that tag, any other kind a marker
 unfoldable pub entryOf : ℕ → ℕ → Entry
 entryOf kind body = cond (eqb kind 0) (Message body false) (cond (eqb kind 1) (Message body true) Marker)
 
--- a channel's entries: as many as its count says, whatever the count. Places past the array read as one fixed entry, so a count over 8 shows.
+-- what place i of a channel holds; a place past the array reads as one fixed entry
+abbrev pub entryAt : Channel → ℕ → Entry
+entryAt c i = entryOf (getD (c .kinds) i 0) (getD (c .bodies) i 0)
+
+-- a channel's entries: as many as its count says, whatever the count, so that a count over 8 shows
 unfoldable pub entries : Channel → List Entry
-entries c = tabulate (c .count) (λ i. entryOf (getD (c .kinds) i 0) (getD (c .bodies) i 0))
+entries c = tabulate (c .count) (entryAt c)
 
 -- the bodies of its messages, in order
 unfoldable pub bodies : List Entry → List ℕ
@@ -36,3 +41,24 @@ markerless (Marker ∷ es) = false
 -- messages with these bodies, all with tag t
 unfoldable pub messages : Bool → List ℕ → List Entry
 messages t bs = map (λ b. Message b t) bs
+
+-- "9 wire holds 8 entries": there is no room for one more
+unfoldable pub noRoom : List Entry → Bool
+noRoom es = leb channelRoom (length es)
+
+-- for a message, and for a marker
+unfoldable pub noRoomForMessage : List Entry → Bool
+noRoomForMessage es = noRoom es
+
+unfoldable pub noRoomForMarker : List Entry → Bool
+noRoomForMarker es = noRoom es
+
+-- "10 wire empty"
+unfoldable pub noEntry : List Entry → Bool
+noEntry [] = true
+noEntry (e ∷ es) = false
+
+-- the body of an entry received; a marker has none
+abbrev pub bodyOf : Entry → ℕ
+bodyOf (Message b t) = b
+bodyOf Marker = 0

@@ -1,5 +1,5 @@
--- Demand 3: what a recover after a list of calls gives. The theorem is proofs/Demand3.antt. Its companion says which refusals never come up in such a
--- list, and is proved in proofs/Reached.antt.
+-- Demand 3: what a recover after a list of calls gives. The theorem is proofs/Demand3.antt. Its companion says which
+-- refusals never come up in such a list, and is proved in proofs/Reached.antt.
 use Prim.Native.Nat.{ℕ, _<_, _≤_}
 use mathlib.Core.Path.{_≡_}
 use mathlib.Core.Bool.{true}
@@ -16,19 +16,21 @@ use Rattle.model.specs.Channel.{bodies, markerless}
 use Rattle.model.specs.Sound.{sound}
 use Rattle.model.specs.Outcome.{refusalNumber}
 use Rattle.model.specs.Step.{answer}
-use Rattle.model.specs.Start.{Begun, initialize, recover}
+use Rattle.model.specs.Start.{Startup, initialize, recover}
 use Rattle.model.specs.History.{History, sent, received, bodiesOn, receivedBodies, onRecover}
 use Rattle.model.specs.Run.{Call, World, run, firstWorld}
 
 -- What recover answers (r), with the histories as this recover leaves them (h) and the number of accepted commits.
-pub record Recovered (T : Topology) (r : Begun) (h : History) (commits : ℕ) : Type 0 where
+pub record Recovered (T : Topology) (r : Startup) (h : History) (commits : ℕ) : Type 0 where
   -- a restart after the list is never refused, and
   pub accepted : r .start ≡ Ready
   -- "gives an idle state whose line number is the number of accepted finishes."
   pub idle : r .state .round .phase ≡ Idle
   pub line : r .state .round .line ≡ commits
   -- "on each wire the bodies sent, in order, are the bodies taken, in order, followed by the bodies the wire now holds,
-  pub channels : (c : ℕ) → c < T .channels → bodiesOn sent c (h .events (sender T c)) ≡ bodiesOn received c (h .events (receiver T c)) ++ bodies (r .state .channel c)
+  pub channels : (c : ℕ) → c < T .channels
+      → bodiesOn sent c (h .events (sender T c))
+      ≡ bodiesOn received c (h .events (receiver T c)) ++ bodies (r .state .channel c)
   -- and it holds no note."
   pub markerless : (c : ℕ) → c < T .channels → markerless (r .state .channel c) ≡ true
   -- "Each word is what the takes in the board's book make from word 0, in order."
@@ -38,22 +40,25 @@ pub record Recovered (T : Topology) (r : Begun) (h : History) (commits : ℕ) : 
 abbrev pub RecoveredAfter : Topology → World → Type 0
 RecoveredAfter T w = Recovered T (recover T (w .store)) (onRecover (w .history)) (w .commits)
 
--- Demand 3: any topology and store with an accepted initialize, and any list of calls after it, whatever the budgets. It has no premise on what comes
--- after a lost power: the claim holds for every list (docs/DECISIONS.md, 11).
+-- Demand 3: any topology and store with an accepted initialize, and any list of calls after it, whatever the budgets.
+-- It has no premise on what comes after a lost power: the claim holds for every list (docs/DECISIONS.md, 11).
 abbrev pub Demand3 : Type 0
 Demand3 =
-    (T : Topology) (store : List ℕ) → initialize T store .start ≡ Ready → (calls : List Call) → RecoveredAfter T (run T (firstWorld T store) calls)
+    (T : Topology) (store : List ℕ) → initialize T store .start ≡ Ready → (calls : List Call)
+    → RecoveredAfter T (run T (firstWorld T store) calls)
 
 -- What a world reached by such a list is like.
 pub record Reached (T : Topology) (w : World) : Type 0 where
   -- Its state is sound.
   pub sound : sound (w .state) ≡ true
   -- A step, whatever it is and whatever its budget, is refused with 8 to 13 alone: 15, 6 and 14 never come up.
-  pub steps : (x : Step) (budget : ℕ) (r : Refusal) → answer (w .state) x (w .store) budget .outcome ≡ Refused r → (8 ≤ refusalNumber r) × (refusalNumber r ≤ 13)
+  pub steps : (x : Step) (budget : ℕ) (r : Refusal) → answer (w .state) x (w .store) budget .outcome ≡ Refused r
+      → (8 ≤ refusalNumber r) × (refusalNumber r ≤ 13)
   -- A recover is not refused at all: 16 never comes up.
   pub recovers : recover T (w .store) .start ≡ Ready
 
 -- The companion of demand 3, under the same premises.
 abbrev pub Demand3Companion : Type 0
 Demand3Companion =
-    (T : Topology) (store : List ℕ) → initialize T store .start ≡ Ready → (calls : List Call) → Reached T (run T (firstWorld T store) calls)
+    (T : Topology) (store : List ℕ) → initialize T store .start ≡ Ready → (calls : List Call)
+    → Reached T (run T (firstWorld T store) calls)

@@ -1,5 +1,5 @@
--- Document 01, "The books". A book is a process's history, its entries are events. Histories are fed calls and answers alone: state, logs and store
--- are never asked.
+-- Document 01, "The books". A book is a process's history, its entries are events. Histories are fed calls and answers
+-- alone: state, logs and store are never asked.
 use Prim.Native.Nat.{ℕ, zero, suc}
 use mathlib.Core.Bool.{Bool, true, false, cond, _&&_}
 use mathlib.Core.List.{List, [], _∷_, _++_}
@@ -8,7 +8,8 @@ use lib.ListN.{length, take}
 use lib.Dec.{leb, eqb}
 use Rattle.model.specs.declared.Topology.{Topology}
 use Rattle.model.specs.declared.Step.{Step}
-use Rattle.model.specs.declared.Step.the-variants.{Send, Receive, Begin, PhysicalCheckpoint, LogicalCheckpoint, SendMarker, Commit, Abort}
+use Rattle.model.specs.declared.Step.the-variants.{Send, Receive, Begin, PhysicalCheckpoint, LogicalCheckpoint}
+use Rattle.model.specs.declared.Step.the-variants.{SendMarker, Commit, Abort}
 use Rattle.model.specs.declared.Outcome.{Outcome}
 use Rattle.model.specs.declared.Outcome.the-variants.{Done, Received, ReceivedMarker, Refused, PowerLost}
 use Rattle.model.specs.Notation.{upd}
@@ -25,7 +26,8 @@ pub record Event : Type 0 where
   pub channel : ℕ
   pub body : ℕ
 
--- "Kept are the last finished line, the marks of the round under way, and a book for each board". "A mark is a place in a board's book".
+-- "Kept are the last finished line, the marks of the round under way, and a book for each board". "A mark is a place in
+-- a board's book".
 pub record History : Type 0 where
   pub events : ℕ → List Event
   pub line : ℕ → ℕ
@@ -82,14 +84,17 @@ unfoldable pub isAfter : Option ℕ → ℕ → Bool
 isAfter none place = false
 isAfter (some m) place = leb m place
 
--- "with n − 1 takes of this wire in the receiver's book, the n-th send on it in the sender's book is looked at. If that stands after the sender's mark"
-unfoldable pub sentAfterMark : Topology → ℕ → History → Bool
-sentAfterMark T c h =
-    isAfter (h .mark (sender T c))
-    (placeOfSend c (length (bodiesOn received c (h .events (receiver T c)))) (h .events (sender T c)))
+-- "with n − 1 takes of this wire in the receiver's book, the n-th send on it in the sender's book is looked at": its
+-- place
+unfoldable pub lookedAt : Topology → ℕ → History → ℕ
+lookedAt T c h = placeOfSend c (length (bodiesOn received c (h .events (receiver T c)))) (h .events (sender T c))
 
--- "If that stands after the sender's mark of this round and the receiver has none, the receiver is marked first. Then the take enters the receiver's
--- book."
+-- "If that stands after the sender's mark"
+unfoldable pub sentAfterMark : Topology → ℕ → History → Bool
+sentAfterMark T c h = isAfter (h .mark (sender T c)) (lookedAt T c h)
+
+-- "If that stands after the sender's mark of this round and the receiver has none, the receiver is marked first. Then
+-- the take enters the receiver's book."
 unfoldable pub onMessage : Topology → ℕ → ℕ → History → History
 onMessage T c b h =
     addEvent (receiver T c) (record { direction = received; channel = c; body = b })
@@ -108,7 +113,8 @@ unfoldable pub markOr : Option ℕ → ℕ → ℕ
 markOr none place = place
 markOr (some m) place = m
 
--- "Finish: the round's marks become the last finished line, and the round has none." (An accepted finish has a mark for every process.)
+-- "Finish: the round's marks become the last finished line, and the round has none." (An accepted finish has a mark for
+-- every process.)
 unfoldable pub onCommit : History → History
 onCommit h = record { events = h .events; line = λ p. markOr (h .mark p) (h .line p); mark = λ p. none }
 
@@ -131,7 +137,7 @@ onAccepted T Commit o h = onCommit h
 -- "Give up: the round has none."
 onAccepted T Abort o h = noMarks h
 
--- "They are fed every call with its arguments and, of its answer, whether it was accepted (neither refused nor cut) and whether a take gave a note or
--- a body, and which body." "every refused or cut call: nothing"
+-- "They are fed every call with its arguments and, of its answer, whether it was accepted (neither refused nor cut) and
+-- whether a take gave a note or a body, and which body." "every refused or cut call: nothing"
 unfoldable pub onStep : Topology → Step → Outcome → History → History
 onStep T x o h = cond (accepted o) (onAccepted T x o h) h

@@ -1,10 +1,12 @@
 -- Document 01 as definitions, in its order. What a reader must believe is here; what is proved of it is in proofs/.
 pub mod Notation
+pub mod Check
 pub mod Word
 pub mod Topology
 pub mod Channel
-pub mod State
+pub mod Phase
 pub mod Layout
+pub mod State
 pub mod Sound
 pub mod Write
 pub mod Change

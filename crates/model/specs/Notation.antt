@@ -1,11 +1,10 @@
--- Notation that the definitions share: a function changed at one index, a list from a function, a test of every number below a bound, and the
--- first refusal among checks.
+-- Notation that the definitions share, of functions, lists and tests alone: a function changed at one index, a list
+-- from a function, a test of every number below a bound, and the first of several things that are there.
 use Prim.Native.Nat.{ℕ, zero, suc}
 use mathlib.Core.Bool.{Bool, true, cond, _&&_}
 use mathlib.Core.List.{List, [], _∷_, _++_}
 use mathlib.Core.Option.{Option, none, some}
 use lib.Dec.{eqb}
-use Rattle.model.specs.declared.Refusal.{Refusal}
 
 module _ {ℓ} {A : Type ℓ} where
   -- f with x at index i
@@ -27,26 +26,17 @@ module _ {ℓ} {A : Type ℓ} where
   orElse none b = b
   orElse (some a) b = some a
 
+  -- what the smallest number below n has that has something
+  unfoldable pub firstBelow : ℕ → (ℕ → Option A) → Option A
+  firstBelow zero f = none
+  firstBelow (suc n) f = orElse (firstBelow n f) (f n)
+
 -- whether f holds of every number below n
 unfoldable pub allBelow : ℕ → (ℕ → Bool) → Bool
 allBelow zero f = true
 allBelow (suc n) f = allBelow n f && f n
 
--- A check: a test, and the refusal where the test holds.
-pub record Check : Type 0 where
-  pub fails : Bool
-  pub refusal : Refusal
-
-infix 20 _⇒_
-abbrev pub _⇒_ : Bool → Refusal → Check
-t ⇒ r = record { fails = t; refusal = r }
-
--- the refusal of the first check that fails, in the list's order
-unfoldable pub firstRefusal : List Check → Option Refusal
-firstRefusal [] = none
-firstRefusal (c ∷ cs) = cond (c .fails) (some (c .refusal)) (firstRefusal cs)
-
--- the refusal of the smallest number below n that has one
-unfoldable pub firstBelow : ℕ → (ℕ → Option Refusal) → Option Refusal
-firstBelow zero f = none
-firstBelow (suc n) f = orElse (firstBelow n f) (f n)
+-- whether every test of the list holds
+unfoldable pub allTrue : List Bool → Bool
+allTrue [] = true
+allTrue (t ∷ ts) = t && allTrue ts

@@ -1,9 +1,10 @@
--- Document 01: "Order for steps: 15, 6, 8, 12, 13, 10, 14, 9, 11." As a list, and what it is for a step's checks to come in it.
+-- Document 01: "Order for steps: 15, 6, 8, 12, 13, 10, 14, 9, 11." As a list, and what it is for a step's checks to
+-- come in it.
 use Prim.Native.Nat.{ℕ}
 use mathlib.Core.Bool.{Bool, true, false, cond}
 use mathlib.Core.List.{List, [], _∷_, map}
 use lib.Dec.{eqb}
-use Rattle.model.specs.Notation.{Check}
+use Rattle.model.specs.Check.{Check}
 use Rattle.model.specs.Outcome.{refusalNumber}
 
 unfoldable pub documentOrder : List ℕ

@@ -5,10 +5,13 @@ use mathlib.Core.List.{List, [], _∷_}
 use Rattle.model.specs.declared.Outcome.{Outcome}
 use Rattle.model.specs.declared.Outcome.the-variants.{Done, Received, ReceivedMarker, Refused, PowerLost}
 use Rattle.model.specs.declared.Refusal.{Refusal}
-use Rattle.model.specs.declared.Refusal.the-variants.{ProcessCount, ChannelCount, UnknownEnd, SelfChannel, DoubledChannel, ShortStore, Malformed, NoSuch, ChannelFull, ChannelEmpty, LogFull, NotNow, LastLine, MarkerOnClosed, Unsound, BadCount}
+use Rattle.model.specs.declared.Refusal.the-variants.{ProcessCount, ChannelCount, UnknownEnd, SelfChannel}
+use Rattle.model.specs.declared.Refusal.the-variants.{DoubledChannel, ShortStore, Malformed, NoSuch, ChannelFull}
+use Rattle.model.specs.declared.Refusal.the-variants.{ChannelEmpty, LogFull, NotNow, LastLine, MarkerOnClosed}
+use Rattle.model.specs.declared.Refusal.the-variants.{Unsound, BadCount}
 
 -- "Turned down, by who causes it"
-unfoldable pub refusalNumber : Refusal → ℕ
+abbrev pub refusalNumber : Refusal → ℕ
 refusalNumber ProcessCount = 1
 refusalNumber ChannelCount = 2
 refusalNumber UnknownEnd = 3

@@ -1,4 +1,5 @@
--- Document 01's program `head`, as data: the plan's bytes, and what is answered to the records after them. The text of a line is not here.
+-- Document 01's program `head`, as data: the plan's bytes, and what is answered to the records after them. The text of
+-- a line is not here.
 use Prim.Native.Nat.{ℕ, zero, suc, _+_, _*_}
 use mathlib.Core.Bool.{Bool, true, false, cond}
 use mathlib.Core.List.{List, [], _∷_}
@@ -14,18 +15,19 @@ use Rattle.model.specs.declared.Start.{Start}
 use Rattle.model.specs.declared.Start.the-variants as start
 use Rattle.model.specs.declared.Refusal.{Refusal}
 use Rattle.model.specs.declared.Refusal.the-variants.{Malformed}
-use Rattle.model.specs.Notation.{tabulate, _⇒_, firstRefusal, orElse}
-use Rattle.model.specs.Topology.{topologyRefusal, sizeRefusal}
+use Rattle.model.specs.Notation.{tabulate, orElse}
+use Rattle.model.specs.Check.{_⇒_, firstRefusal}
+use Rattle.model.specs.Topology.{channelLimit, topologyRefusal, sizeRefusal}
 use Rattle.model.specs.Channel.{bodies}
 use Rattle.model.specs.Layout.{storeCells}
 use Rattle.model.specs.State.{GlobalState}
 use Rattle.model.specs.Write.{Answered}
 use Rattle.model.specs.Step.{answer}
-use Rattle.model.specs.Start.{Begun, initialize, recover}
+use Rattle.model.specs.Start.{Startup, initialize, recover}
 use Rattle.model.specs.Record.{Reading, andThen, readBody, readRecord}
 
 -- "the first 65,536 bytes of standard input and no more"
-unfoldable pub inputBytes : ℕ
+abbrev pub inputBytes : ℕ
 inputBytes = 65536
 
 -- "boards, wires, two bytes per wire (from, to), then records": byte i, counted from `at`, of channel c's pair
@@ -37,31 +39,35 @@ planOf bytes =
     record {
       processes = getD bytes 0 0;
       channels = getD bytes 1 0;
-      from = tabulate 64 (endByte bytes 2);
-      to = tabulate 64 (endByte bytes 3);
+      from = tabulate channelLimit (endByte bytes 2);
+      to = tabulate channelLimit (endByte bytes 3);
     }
 
 unfoldable pub planLength : List ℕ → ℕ
 planLength bytes = 2 + 2 * getD bytes 1 0
 
--- "The plan's checks run: under two bytes 7; 1; 2; wires broken off 7; 3 to 5."
-unfoldable pub planRefusal : List ℕ → Option Refusal
-planRefusal bytes =
+-- "The plan's checks run: under two bytes 7; 1; 2; wires broken off 7;": what its sizes tell
+unfoldable pub shapeRefusal : List ℕ → Option Refusal
+shapeRefusal bytes =
     orElse (firstRefusal ((ltb (length bytes) 2 ⇒ Malformed) ∷ []))
-    (orElse (sizeRefusal (planOf bytes))
-    (orElse (firstRefusal ((ltb (length bytes) (planLength bytes) ⇒ Malformed) ∷ []))
-    (topologyRefusal (planOf bytes))))
+    (orElse (sizeRefusal (getD bytes 0 0) (getD bytes 1 0))
+    (firstRefusal ((ltb (length bytes) (planLength bytes) ⇒ Malformed) ∷ [])))
+
+-- then "3 to 5", for which the topology's checks stand
+unfoldable pub planRefusal : List ℕ → Option Refusal
+planRefusal bytes = orElse (shapeRefusal bytes) (topologyRefusal (planOf bytes))
 
 -- "runs with full current": more writes than any step makes
-unfoldable pub fullBudget : ℕ
+abbrev pub fullBudget : ℕ
 fullBudget = 4294967295
 
--- Where a call's budget comes from: full current, or, in the test program `drill`, 4 bytes before each record, lowest first.
-pub data Current : Type 0 where
-  full : Current
-  given : Current
+-- Where a call's budget comes from: full current, or, in the test program `drill`, 4 bytes before each record, lowest
+-- first.
+pub data BudgetSource : Type 0 where
+  full : BudgetSource
+  given : BudgetSource
 
-unfoldable pub readBudget : Current → List ℕ → Reading ℕ
+unfoldable pub readBudget : BudgetSource → List ℕ → Reading ℕ
 readBudget full bytes = some (fullBudget, bytes)
 readBudget given bytes = readBody bytes
 
@@ -70,9 +76,9 @@ pub record Request : Type 0 where
   pub content : Record
   pub budget : ℕ
 
-unfoldable pub readRequest : Current → List ℕ → Reading Request
-readRequest current bytes =
-    andThen (readBudget current bytes) λ budget rest.
+unfoldable pub readRequest : BudgetSource → List ℕ → Reading Request
+readRequest source bytes =
+    andThen (readBudget source bytes) λ budget rest.
     andThen (readRecord rest) λ r after.
     some (record { content = r; budget = budget }, after)
 
@@ -97,10 +103,10 @@ readingThen none more = record { requests = []; broken = true }
 readingThen (some r) more = record { requests = r .0 ∷ more (r .1) .requests; broken = more (r .1) .broken }
 
 -- fuel: at least the number of bytes. "a 7 ends the reading", "the end of the bytes ends it without a line"
-unfoldable pub readAll : Current → ℕ → List ℕ → Readings
-readAll current zero bytes = record { requests = []; broken = false }
-readAll current (suc fuel) [] = record { requests = []; broken = false }
-readAll current (suc fuel) (b ∷ bytes) = readingThen (readRequest current (b ∷ bytes)) (λ rest. readAll current fuel rest)
+unfoldable pub readAll : BudgetSource → ℕ → List ℕ → Readings
+readAll source zero bytes = record { requests = []; broken = false }
+readAll source (suc fuel) [] = record { requests = []; broken = false }
+readAll source (suc fuel) (b ∷ bytes) = readingThen (readRequest source (b ∷ bytes)) (λ rest. readAll source fuel rest)
 
 -- what is said of one request, and the state and the store after it
 pub record Served : Type 0 where
@@ -114,13 +120,13 @@ unfoldable pub ofAnswer : Answered → Served
 ofAnswer a = record { said = outcome (a .outcome); made = a .made; state = a .state; store = a .store }
 
 -- a recover's: its line number and the state at that line; or its refusal, and the state is kept
-unfoldable pub ofBegun : Start → Begun → GlobalState → Served
-ofBegun start.Ready r s = record { said = line (r .state .round .line); made = 0; state = r .state; store = r .store }
-ofBegun (start.Refused x) r s = record { said = outcome (Refused x); made = 0; state = s; store = r .store }
+unfoldable pub ofStartup : Start → Startup → GlobalState → Served
+ofStartup start.Ready r s = record { said = line (r .state .round .line); made = 0; state = r .state; store = r .store }
+ofStartup (start.Refused x) r s = record { said = outcome (Refused x); made = 0; state = s; store = r .store }
 
 unfoldable pub serve : Topology → GlobalState → List ℕ → ℕ → Record → Served
 serve T s store budget (Call x) = ofAnswer (answer s x store budget)
-serve T s store budget Recover = ofBegun (recover T store .start) (recover T store) s
+serve T s store budget Recover = ofStartup (recover T store .start) (recover T store) s
 
 -- the lines printed, and the state and the store after the last of them
 pub record Session : Type 0 where
@@ -131,7 +137,11 @@ pub record Session : Type 0 where
 -- the line of the request served, before the others
 unfoldable pub lineThen : ℕ → Served → Session → Session
 lineThen n x more =
-    record { lines = record { number = n; said = x .said; made = x .made } ∷ more .lines; state = more .state; store = more .store }
+    record {
+      lines = record { number = n; said = x .said; made = x .made } ∷ more .lines;
+      state = more .state;
+      store = more .store;
+    }
 
 -- the last line, where the bytes broke off: "a 7 ends the reading after such a line with 0 stores"
 unfoldable pub brokenLine : Bool → ℕ → List Line
@@ -145,11 +155,14 @@ session T broken n s store (r ∷ rs) =
     let x : Served = serve T s store (r .budget) (r .content) in
     lineThen n x (session T broken (n + 1) (x .state) (x .store) rs)
 
+-- a session from its n-th line on, in this state, on this store and with these bytes left
+unfoldable pub sessionFrom : BudgetSource → Topology → ℕ → GlobalState → List ℕ → List ℕ → Session
+sessionFrom source T n s store bytes =
+    let all : Readings = readAll source (length bytes) bytes in session T (all .broken) n s store (all .requests)
+
 -- a whole session, from initialize on the store that there is, with these bytes after the plan
-unfoldable pub sessionOf : Current → Topology → List ℕ → List ℕ → Session
-sessionOf current T store bytes =
-    session T (readAll current (length bytes) bytes .broken) 1 (initialize T store .state) (initialize T store .store)
-    (readAll current (length bytes) bytes .requests)
+unfoldable pub sessionOf : BudgetSource → Topology → List ℕ → List ℕ → Session
+sessionOf source T store bytes = sessionFrom source T 1 (initialize T store .state) (initialize T store .store) bytes
 
 -- "Last come each board with its word, and each wire with its message count and bodies."
 pub data Output : Type 0 where
@@ -158,12 +171,25 @@ pub data Output : Type 0 where
 
 unfoldable pub report : Topology → Session → Output
 report T session =
-    ran (session .lines) (tabulate (T .processes) (session .state .word)) (tabulate (T .channels) (λ c. bodies (session .state .channel c)))
+    ran (session .lines) (tabulate (T .processes) (session .state .word))
+    (tabulate (T .channels) (λ c. bodies (session .state .channel c)))
 
--- "It prints `plan refused n` and stops, or runs with full current."
-unfoldable pub headOf : Option Refusal → List ℕ → Output
-headOf (some r) bytes = planRefused r
-headOf none bytes = report (planOf bytes) (sessionOf full (planOf bytes) (replicate storeCells 0) (drop (planLength bytes) bytes))
+-- what a program prints, as data, and the store that is left
+pub record Played : Type 0 where
+  pub output : Output
+  pub store : List ℕ
 
+-- "It prints `plan refused n` and stops, or runs": on this store, with budgets from this source
+unfoldable pub playedOf : Option Refusal → BudgetSource → List ℕ → List ℕ → Played
+playedOf (some r) source store bytes = record { output = planRefused r; store = store }
+playedOf none source store bytes =
+    let s : Session = sessionOf source (planOf bytes) store (drop (planLength bytes) bytes) in
+    record { output = report (planOf bytes) s; store = s .store }
+
+unfoldable pub played : BudgetSource → List ℕ → List ℕ → Played
+played source store input =
+    playedOf (planRefusal (take inputBytes input)) source store (take inputBytes input)
+
+-- "with full current", on a store of zeros
 unfoldable pub head : List ℕ → Output
-head input = headOf (planRefusal (take inputBytes input)) (take inputBytes input)
+head input = played full (replicate storeCells 0) input .output

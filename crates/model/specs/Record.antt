@@ -1,5 +1,6 @@
--- Document 01, "Records": "A record opens with a bit map byte: bit 0 kind (1 byte, 1 to 9, as numbered above; 9 is restart), bit 1 board (1 byte),
--- bit 2 wire (1 byte), bit 3 body (4 bytes, lowest first); only fields whose bit stands follow, in that order."
+-- Document 01, "Records": "A record opens with a bit map byte: bit 0 kind (1 byte, 1 to 9, as numbered above; 9 is
+-- restart), bit 1 board (1 byte), bit 2 wire (1 byte), bit 3 body (4 bytes, lowest first); only fields whose bit stands
+-- follow, in that order."
 use Prim.Native.Nat.{ℕ, _+_, _*_, _/_, _%_, _<_}
 use mathlib.Core.Bool.{Bool, true, false, cond, _&&_}
 use mathlib.Core.List.{List, [], _∷_, _++_}
@@ -8,7 +9,8 @@ use lib.ListN.{getD}
 use lib.Dec.{ltb, eqb}
 use Rattle.model.specs.declared.Record.{Record}
 use Rattle.model.specs.declared.Record.the-variants.{Call, Recover}
-use Rattle.model.specs.declared.Step.the-variants.{Send, Receive, Begin, PhysicalCheckpoint, LogicalCheckpoint, SendMarker, Commit, Abort}
+use Rattle.model.specs.declared.Step.the-variants.{Send, Receive, Begin, PhysicalCheckpoint, LogicalCheckpoint}
+use Rattle.model.specs.declared.Step.the-variants.{SendMarker, Commit, Abort}
 
 -- a record's fields; "An absent board, wire or body is 0"
 pub record Fields : Type 0 where
@@ -42,7 +44,8 @@ recordOf f =
     cond (eqb (f .kind) 1) (provided (absent (f .process)) (Call (Send (f .channel) (f .body))))
     (cond (eqb (f .kind) 2) (provided (absent (f .process) && absent (f .body)) (Call (Receive (f .channel))))
     (cond (eqb (f .kind) 3) (provided (absent (f .process) && absent (f .channel) && absent (f .body)) (Call Begin))
-    (cond (eqb (f .kind) 4) (provided (absent (f .channel) && absent (f .body)) (Call (PhysicalCheckpoint (f .process))))
+    (cond (eqb (f .kind) 4) (provided (absent (f .channel) && absent (f .body))
+    (Call (PhysicalCheckpoint (f .process))))
     (cond (eqb (f .kind) 5) (provided (absent (f .channel) && absent (f .body)) (Call (LogicalCheckpoint (f .process))))
     (cond (eqb (f .kind) 6) (provided (absent (f .process) && absent (f .body)) (Call (SendMarker (f .channel))))
     (cond (eqb (f .kind) 7) (provided (absent (f .process) && absent (f .channel) && absent (f .body)) (Call Commit))
@@ -92,13 +95,16 @@ unfoldable pub readByte : List ℕ → Reading ℕ
 readByte [] = none
 readByte (x ∷ bytes) = some (x, bytes)
 
--- four bytes, lowest first
+-- what four bytes say, lowest first
+abbrev pub lowestFirst : ℕ → ℕ → ℕ → ℕ → ℕ
+lowestFirst a b c d = a + 256 * b + 65536 * c + 16777216 * d
+
 unfoldable pub readBody : List ℕ → Reading ℕ
 readBody [] = none
 readBody (a ∷ []) = none
 readBody (a ∷ b ∷ []) = none
 readBody (a ∷ b ∷ c ∷ []) = none
-readBody (a ∷ b ∷ c ∷ d ∷ bytes) = some (a + 256 * b + 65536 * c + 16777216 * d, bytes)
+readBody (a ∷ b ∷ c ∷ d ∷ bytes) = some (lowestFirst a b c d, bytes)
 
 -- a value that was read, unless it is 0
 unfoldable pub nonzero : ℕ → List ℕ → Reading ℕ

@@ -4,15 +4,16 @@ use mathlib.Core.Bool.{Bool, true, false, cond}
 use mathlib.Core.List.{List, [], _∷_}
 use Rattle.model.specs.declared.Topology.{Topology}
 use Rattle.model.specs.declared.Step.{Step}
-use Rattle.model.specs.declared.Step.the-variants.{Send, Receive, Begin, PhysicalCheckpoint, LogicalCheckpoint, SendMarker, Commit, Abort}
+use Rattle.model.specs.declared.Step.the-variants.{Send, Receive, Begin, PhysicalCheckpoint}
+use Rattle.model.specs.declared.Step.the-variants.{LogicalCheckpoint, SendMarker, Commit, Abort}
 use Rattle.model.specs.declared.Outcome.{Outcome}
+use Rattle.model.specs.declared.Outcome.the-variants as outcome
 use Rattle.model.specs.declared.Start.{Start}
 use Rattle.model.specs.declared.Start.the-variants.{Ready, Refused}
 use Rattle.model.specs.State.{GlobalState}
 use Rattle.model.specs.Outcome.{accepted}
-use Rattle.model.specs.Write.{Answered}
 use Rattle.model.specs.Step.{answer}
-use Rattle.model.specs.Start.{Begun, initialize, recover}
+use Rattle.model.specs.Start.{Startup, initialize, recover}
 use Rattle.model.specs.History.{History, newHistory, onStep, onRecover}
 
 -- a call: a step with its budget, or a recover. The arguments are any natural numbers.
@@ -41,29 +42,73 @@ isCommit Abort = false
 unfoldable pub countCommit : Step → Outcome → ℕ → ℕ
 countCommit x o n = cond (isCommit x) (cond (accepted o) (n + 1) n) n
 
--- after a step: what it answers, and the histories fed with it
-unfoldable pub afterAnswer : Topology → Step → Answered → World → World
-afterAnswer T x a w =
-    record {
-      state = a .state;
-      store = a .store;
-      history = onStep T x (a .outcome) (w .history);
-      commits = countCommit x (a .outcome) (w .commits);
-    }
+-- What a call was answered: its outcome and the writes made. A recover that is ready is done, and makes none.
+pub record Reply : Type 0 where
+  pub call : Call
+  pub outcome : Outcome
+  pub made : ℕ
 
--- after a recover: its state, or the state as it was where it is refused
-unfoldable pub afterBegun : Start → Begun → World → World
-afterBegun Ready r w = record { state = r .state; store = r .store; history = onRecover (w .history); commits = w .commits }
-afterBegun (Refused x) r w = w
+unfoldable pub startOutcome : Start → Outcome
+startOutcome Ready = outcome.Done
+startOutcome (Refused r) = outcome.Refused r
+
+unfoldable pub replyTo : Topology → World → Call → Reply
+replyTo T w (call x budget) =
+    record {
+      call = call x budget;
+      outcome = answer (w .state) x (w .store) budget .outcome;
+      made = answer (w .state) x (w .store) budget .made;
+    }
+replyTo T w recovery =
+    record { call = recovery; outcome = startOutcome (recover T (w .store) .start); made = 0 }
+
+-- the histories after a call with this outcome
+unfoldable pub onCall : Topology → Call → Outcome → History → History
+onCall T (call x budget) o h = onStep T x o h
+onCall T recovery o h = cond (accepted o) (onRecover h) h
+
+-- the histories are fed replies alone
+unfoldable pub onReply : Topology → Reply → History → History
+onReply T r h = onCall T (r .call) (r .outcome) h
+
+unfoldable pub commitsAfter : Call → Outcome → ℕ → ℕ
+commitsAfter (call x budget) o n = countCommit x o n
+commitsAfter recovery o n = n
+
+-- the state after a recover: its own, or the state as it was where it is refused
+unfoldable pub startedState : Start → GlobalState → GlobalState → GlobalState
+startedState Ready after before = after
+startedState (Refused r) after before = before
+
+unfoldable pub stateAfter : Topology → World → Call → GlobalState
+stateAfter T w (call x budget) = answer (w .state) x (w .store) budget .state
+stateAfter T w recovery =
+    let r : Startup = recover T (w .store) in startedState (r .start) (r .state) (w .state)
+
+-- recover "only reads"
+unfoldable pub storeAfter : Topology → World → Call → List ℕ
+storeAfter T w (call x budget) = answer (w .state) x (w .store) budget .store
+storeAfter T w recovery = recover T (w .store) .store
 
 unfoldable pub next : Topology → World → Call → World
-next T w (call x budget) = afterAnswer T x (answer (w .state) x (w .store) budget) w
-next T w recovery = afterBegun (recover T (w .store) .start) (recover T (w .store)) w
+next T w c =
+    let reply : Reply = replyTo T w c in
+    record {
+      state = stateAfter T w c;
+      store = storeAfter T w c;
+      history = onReply T reply (w .history);
+      commits = commitsAfter (reply .call) (reply .outcome) (w .commits);
+    }
 
 -- the calls one after the other
 unfoldable pub run : Topology → World → List Call → World
 run T w [] = w
 run T w (c ∷ cs) = run T (next T w c) cs
+
+-- the replies to them, in order: the trace of the run
+unfoldable pub trace : Topology → World → List Call → List Reply
+trace T w [] = []
+trace T w (c ∷ cs) = replyTo T w c ∷ trace T (next T w c) cs
 
 -- the start: what initialize leaves
 unfoldable pub firstWorld : Topology → List ℕ → World

@@ -1,44 +1,63 @@
--- Refusal 15, document 01: "state unsound: its plan meets 1 to 5, a planned wire has over 8 entries, the log of a planned board or wire is over its
--- places, the next board to copy isn't in the plan, or the round isn't idle at k = 4,294,967,295."
+-- Refusal 15, document 01: "state unsound: its plan meets 1 to 5, a planned wire has over 8 entries, the log of a
+-- planned board or wire is over its places, the next board to copy isn't in the plan, or the round isn't idle at k =
+-- 4,294,967,295." A clause for each, which says that it is not so.
 use Prim.Native.Nat.{ℕ}
-use mathlib.Core.Bool.{Bool, true, false, not, _&&_, _||_}
-use mathlib.Core.Option.{Option, none, some}
+use mathlib.Core.Bool.{Bool, true, not, _||_}
+use mathlib.Core.List.{List, [], _∷_}
 use lib.ListN.{length}
 use lib.Dec.{leb, eqb}
 use Rattle.model.specs.declared.Phase.{Phase}
 use Rattle.model.specs.declared.Phase.the-variants.{Idle, Physical, Logical}
+use Rattle.model.specs.declared.Round.{Round}
 use Rattle.model.specs.declared.Topology.{Topology}
-use Rattle.model.specs.declared.Refusal.{Refusal}
-use Rattle.model.specs.Notation.{allBelow}
+use Rattle.model.specs.declared.Entry.{Entry}
+use Rattle.model.specs.Notation.{allBelow, allTrue}
+use Rattle.model.specs.Check.{accepts}
 use Rattle.model.specs.Topology.{topologyRefusal, hasProcess}
 use Rattle.model.specs.Channel.{channelRoom}
-use Rattle.model.specs.Layout.{messageLog, channelLog, places}
-use Rattle.model.specs.State.{GlobalState}
+use Rattle.model.specs.Phase.{isIdle}
+use Rattle.model.specs.Layout.{Log, messageLog, channelLog, places}
+use Rattle.model.specs.State.{GlobalState, LogCounts, countOf}
 
 -- the largest line number there is: k = 4,294,967,295
-unfoldable pub lastLine : ℕ
+abbrev pub lastLine : ℕ
 lastLine = 4294967295
 
-unfoldable pub accepts : Option Refusal → Bool
-accepts none = true
-accepts (some r) = false
+-- "its plan meets 1 to 5"
+unfoldable pub topologySound : Topology → Bool
+topologySound T = accepts (topologyRefusal T)
 
-unfoldable pub isIdle : Phase → Bool
-isIdle Idle = true
-isIdle (Physical next) = false
-isIdle Logical = false
+-- "a planned wire has over 8 entries": channel c of the topology, in this phase, with its marker sent or not, closed or
+-- not, and with these entries. Only the entries count so far.
+unfoldable pub channelSound : Topology → Phase → Bool → Bool → ℕ → List Entry → Bool
+channelSound T phase sent closed c es = leb (length es) channelRoom
 
--- "the next board to copy isn't in the plan" does not hold
-unfoldable pub nextInPlan : Topology → Phase → Bool
-nextInPlan T Idle = true
-nextInPlan T (Physical next) = hasProcess T next
-nextInPlan T Logical = true
+-- "the log of a planned board or wire is over its places"
+unfoldable pub logSound : LogCounts → Log → Bool
+logSound counts log = leb (countOf counts log) (places log)
+
+-- "the next board to copy isn't in the plan"
+unfoldable pub phaseSound : Topology → Phase → Bool
+phaseSound T Idle = true
+phaseSound T (Physical next) = hasProcess T next
+phaseSound T Logical = true
+
+-- "the round isn't idle at k = 4,294,967,295"
+unfoldable pub lineSound : Round → Bool
+lineSound round = isIdle (round .phase) || not (eqb (round .line) lastLine)
+
+-- channel c, as the state has it
+unfoldable pub channelSoundIn : GlobalState → ℕ → Bool
+channelSoundIn s c =
+    channelSound (s .topology) (s .round .phase) (s .progress .sent c) (s .progress .closed c) c (s .channel c)
 
 unfoldable pub sound : GlobalState → Bool
 sound s =
-    accepts (topologyRefusal (s .topology))
-    && allBelow (s .topology .channels) (λ c. leb (length (s .channel c)) channelRoom)
-    && allBelow (s .topology .processes) (λ p. leb (s .counts .messages p) (places (messageLog p)))
-    && allBelow (s .topology .channels) (λ c. leb (s .counts .channels c) (places (channelLog c)))
-    && nextInPlan (s .topology) (s .round .phase)
-    && (isIdle (s .round .phase) || not (eqb (s .round .line) lastLine))
+    allTrue
+    (topologySound (s .topology)
+    ∷ allBelow (s .topology .channels) (channelSoundIn s)
+    ∷ allBelow (s .topology .processes) (λ p. logSound (s .counts) (messageLog p))
+    ∷ allBelow (s .topology .channels) (λ c. logSound (s .counts) (channelLog c))
+    ∷ phaseSound (s .topology) (s .round .phase)
+    ∷ lineSound (s .round)
+    ∷ [])

@@ -1,5 +1,5 @@
--- Document 01: setup (initialize) and restart (recover). "Setup and restart: 1 to 6, then 16."; a refusal gives only its number, here beside the
--- blank state, and leaves the store as it was.
+-- Document 01: setup (initialize) and restart (recover). "Setup and restart: 1 to 6, then 16."; a refusal gives only
+-- its number, here beside the blank state, and leaves the store as it was.
 use Prim.Native.Nat.{ℕ}
 use mathlib.Core.Bool.{Bool, false, cond, not, _&&_}
 use mathlib.Core.List.{List, [], _∷_, _++_}
@@ -12,67 +12,82 @@ use Rattle.model.specs.declared.Start.{Start}
 use Rattle.model.specs.declared.Start.the-variants.{Ready, Refused}
 use Rattle.model.specs.declared.Refusal.{Refusal}
 use Rattle.model.specs.declared.Refusal.the-variants.{ShortStore, BadCount}
-use Rattle.model.specs.Notation.{tabulate, concatBelow, allBelow, _⇒_, firstRefusal, orElse}
+use Rattle.model.specs.Notation.{tabulate, concatBelow, allBelow, orElse}
+use Rattle.model.specs.Check.{_⇒_, firstRefusal}
 use Rattle.model.specs.Word.{replay}
 use Rattle.model.specs.Topology.{topologyRefusal, hasProcess, hasChannel}
 use Rattle.model.specs.Channel.{messages}
-use Rattle.model.specs.Layout.{storeCells, cell, lineCell, checkpointCell, messageLog, channelLog, places, countCell, logged}
+use Rattle.model.specs.Layout.{storeCells, cell, lineCell, physicalCell, Log, messageLog, channelLog, places}
+use Rattle.model.specs.Layout.{countCell, entriesBy, logged}
 use Rattle.model.specs.State.{GlobalState, idleState, blankState}
 use Rattle.model.specs.Write.{Write, writeAll, commitWrites}
 
 -- what initialize and recover answer, and what they leave in the store
-pub record Begun : Type 0 where
+pub record Startup : Type 0 where
   pub start : Start
   pub state : GlobalState
   pub store : List ℕ
 
-unfoldable pub begunOr : Option Refusal → GlobalState → List ℕ → List ℕ → Begun
-begunOr none s after before = record { start = Ready; state = s; store = after }
-begunOr (some r) s after before = record { start = Refused r; state = blankState; store = before }
+unfoldable pub startupOr : Option Refusal → GlobalState → List ℕ → List ℕ → Startup
+startupOr none s after before = record { start = Ready; state = s; store = after }
+startupOr (some r) s after before = record { start = Refused r; state = blankState; store = before }
 
 -- 1 to 5, then "6 store under 3,265 cells."
 unfoldable pub initializeRefusal : Topology → ℕ → Option Refusal
 initializeRefusal T cells = orElse (topologyRefusal T) (firstRefusal ((ltb cells storeCells ⇒ ShortStore) ∷ []))
 
--- "Setup writes copy 0 and counts 0 for the planned boards and counts 0 for the planned wires in half 0, then 0 into cell 0"
+-- "Setup writes copy 0 and counts 0 for the planned boards and counts 0 for the planned wires in half 0, then 0 into
+-- cell 0"
 unfoldable pub initializeWrites : Topology → List Write
 initializeWrites T =
     concatBelow (T .processes)
-    (λ p. record { cell = checkpointCell 0 p; value = 0 } ∷ record { cell = countCell 0 (messageLog p); value = 0 } ∷ [])
+    (λ p. record { cell = physicalCell 0 p; value = 0 } ∷ record { cell = countCell 0 (messageLog p); value = 0 } ∷ [])
     ++ tabulate (T .channels) (λ c. record { cell = countCell 0 (channelLog c); value = 0 })
     ++ commitWrites 0
 
 -- "It answers the idle state at line 0, words and tags 0, wires empty."
-unfoldable pub initialize : Topology → List ℕ → Begun
+unfoldable pub initialize : Topology → List ℕ → Startup
 initialize T store =
-    begunOr (initializeRefusal T (length store)) (idleState T 0 (λ p. 0) (λ c. [])) (writeAll store (initializeWrites T)) store
+    startupOr (initializeRefusal T (length store)) (idleState T 0 (λ p. 0) (λ c. []))
+    (writeAll store (initializeWrites T)) store
 
 -- the line that the store says was finished last
 unfoldable pub storedLine : List ℕ → ℕ
 storedLine store = cell store lineCell
 
--- "a planned count in half k mod 2 is over 64 or 8"
+-- a log for line n has no more entries, by the store, than it has places
+unfoldable pub countFits : List ℕ → ℕ → Log → Bool
+countFits store n log = leb (cell store (countCell n log)) (places log)
+
+-- "a planned count in half k mod 2 is over 64 or 8" does not hold
 unfoldable pub countsFit : Topology → List ℕ → Bool
 countsFit T store =
-    allBelow (T .processes) (λ p. leb (cell store (countCell (storedLine store) (messageLog p))) (places (messageLog p)))
-    && allBelow (T .channels) (λ c. leb (cell store (countCell (storedLine store) (channelLog c))) (places (channelLog c)))
+    allBelow (T .processes) (λ p. countFits store (storedLine store) (messageLog p))
+    && allBelow (T .channels) (λ c. countFits store (storedLine store) (channelLog c))
 
 unfoldable pub recoverRefusal : Topology → List ℕ → Option Refusal
 recoverRefusal T store =
     orElse (initializeRefusal T (length store)) (firstRefusal ((not (countsFit T store) ⇒ BadCount) ∷ []))
 
--- "words by replaying board logs on copies"
+-- what the slot for line n makes of process p, with the first k entries of its message log: "words by replaying board
+-- logs on copies"
+unfoldable pub restoredBy : List ℕ → ℕ → ℕ → ℕ → ℕ
+restoredBy store n p k = replay (cell store (physicalCell n p)) (entriesBy store n (messageLog p) k)
+
+-- with as many as its count in the store says
+unfoldable pub restored : List ℕ → ℕ → ℕ → ℕ
+restored store n p = restoredBy store n p (cell store (countCell n (messageLog p)))
+
 unfoldable pub recoveredWord : Topology → List ℕ → ℕ → ℕ
-recoveredWord T store p =
-    cond (hasProcess T p)
-    (replay (cell store (checkpointCell (storedLine store) p)) (logged store (storedLine store) (messageLog p)))
-    0
+recoveredWord T store p = cond (hasProcess T p) (restored store (storedLine store) p) 0
 
 -- "wires filled from wire logs", "tags 0 on boards and messages"
 unfoldable pub recoveredChannel : Topology → List ℕ → ℕ → List Entry
-recoveredChannel T store c = cond (hasChannel T c) (messages false (logged store (storedLine store) (channelLog c))) []
+recoveredChannel T store c =
+    cond (hasChannel T c) (messages false (logged store (storedLine store) (channelLog c))) []
 
 -- "Restart only reads: from plan and store it gives an idle state at line k"
-unfoldable pub recover : Topology → List ℕ → Begun
+unfoldable pub recover : Topology → List ℕ → Startup
 recover T store =
-    begunOr (recoverRefusal T store) (idleState T (storedLine store) (recoveredWord T store) (recoveredChannel T store)) store store
+    startupOr (recoverRefusal T store)
+    (idleState T (storedLine store) (recoveredWord T store) (recoveredChannel T store)) store store

@@ -1,7 +1,7 @@
 -- Document 01's state, with functions of the index for its arrays, and how a State of the code is seen as one.
-use Prim.Native.Nat.{ℕ}
+use Prim.Native.Nat.{ℕ, _+_}
 use mathlib.Core.Bool.{Bool, false}
-use mathlib.Core.List.{List, []}
+use mathlib.Core.List.{List, [], _∷_}
 use lib.ListN.{getD, replicate}
 use Rattle.model.specs.declared.State.{State}
 use Rattle.model.specs.declared.Flags.{Flags}
@@ -11,11 +11,15 @@ use Rattle.model.specs.declared.Phase.the-variants.{Idle}
 use Rattle.model.specs.declared.Topology.{Topology}
 use Rattle.model.specs.declared.Channel.{Channel}
 use Rattle.model.specs.declared.Entry.{Entry}
-use Rattle.model.specs.Channel.{entries}
+use Rattle.model.specs.Notation.{upd}
+use Rattle.model.specs.Topology.{channelLimit}
+use Rattle.model.specs.Channel.{channelRoom, entries}
+use Rattle.model.specs.Layout.{Log, messageLog, channelLog}
 
--- what the round under way has done: marked boards, closed wires, wires with their note put
+-- what the round under way has done: processes that have their logical checkpoint (marked boards), closed wires, wires
+-- with their note put
 pub record Progress : Type 0 where
-  pub checkpointed : ℕ → Bool
+  pub logical : ℕ → Bool
   pub closed : ℕ → Bool
   pub sent : ℕ → Bool
 
@@ -36,10 +40,27 @@ pub record GlobalState : Type 0 where
 
 -- "no board marked, no wire closed and no note put"
 unfoldable pub noProgress : Progress
-noProgress = record { checkpointed = λ p. false; closed = λ c. false; sent = λ c. false }
+noProgress = record { logical = λ p. false; closed = λ c. false; sent = λ c. false }
 
 unfoldable pub noCounts : LogCounts
 noCounts = record { messages = λ p. 0; channels = λ c. 0 }
+
+-- how many entries a log has, by the state
+abbrev pub countOf : LogCounts → Log → ℕ
+countOf counts (messageLog p) = counts .messages p
+countOf counts (channelLog c) = counts .channels c
+
+-- one entry more in a log
+unfoldable pub raised : Log → LogCounts → LogCounts
+raised (messageLog p) counts =
+    record { messages = upd (counts .messages) p (counts .messages p + 1); channels = counts .channels }
+raised (channelLog c) counts =
+    record { messages = counts .messages; channels = upd (counts .channels) c (counts .channels c + 1) }
+
+-- one entry more in each of these logs
+unfoldable pub raisedAll : List Log → LogCounts → LogCounts
+raisedAll [] counts = counts
+raisedAll (log ∷ logs) counts = raisedAll logs (raised log counts)
 
 -- an idle state at line k, with tags 0, no progress and no log counts: what setup and restart answer
 unfoldable pub idleState : Topology → ℕ → (ℕ → ℕ) → (ℕ → List Entry) → GlobalState
@@ -56,7 +77,7 @@ idleState T k word channel =
 
 -- no topology: no process, no channel
 unfoldable pub blankTopology : Topology
-blankTopology = record { processes = 0; channels = 0; from = replicate 64 0; to = replicate 64 0 }
+blankTopology = record { processes = 0; channels = 0; from = replicate channelLimit 0; to = replicate channelLimit 0 }
 
 -- what a refused setup or restart puts in the state's place
 unfoldable pub blankState : GlobalState
@@ -65,7 +86,7 @@ blankState = idleState blankTopology 0 (λ p. 0) (λ c. [])
 unfoldable pub viewProgress : Flags → Progress
 viewProgress f =
     record {
-      checkpointed = λ p. getD (f .checkpointed) p false;
+      logical = λ p. getD (f .logical) p false;
       closed = λ c. getD (f .closed) c false;
       sent = λ c. getD (f .sent) c false;
     }
@@ -75,10 +96,10 @@ viewCounts n = record { messages = λ p. getD (n .messages) p 0; channels = λ c
 
 -- a channel with no entry, for an index past the array
 unfoldable pub emptyChannel : Channel
-emptyChannel = record { bodies = replicate 8 0; kinds = replicate 8 0; count = 0 }
+emptyChannel = record { bodies = replicate channelRoom 0; kinds = replicate channelRoom 0; count = 0 }
 
--- How a state of the code is seen. Nothing is hidden but the unused places of channels, and by which of the kinds over 1, and beside which body, a
--- marker is written (Channel.entryOf).
+-- How a state of the code is seen. Nothing is hidden but the unused places of channels, and by which of the kinds over
+-- 1, and beside which body, a marker is written (Channel.entryOf).
 unfoldable pub view : State → GlobalState
 view s =
     record {

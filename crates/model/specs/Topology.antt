@@ -7,8 +7,22 @@ use lib.ListN.{getD}
 use lib.Dec.{leb, ltb, eqb}
 use Rattle.model.specs.declared.Topology.{Topology}
 use Rattle.model.specs.declared.Refusal.{Refusal}
-use Rattle.model.specs.declared.Refusal.the-variants.{ProcessCount, ChannelCount, UnknownEnd, SelfChannel, DoubledChannel}
-use Rattle.model.specs.Notation.{allBelow, Check, _⇒_, firstRefusal, firstBelow, orElse}
+use Rattle.model.specs.declared.Refusal.the-variants.{
+  ProcessCount,
+  ChannelCount,
+  UnknownEnd,
+  SelfChannel,
+  DoubledChannel,
+}
+use Rattle.model.specs.Notation.{allBelow, firstBelow, orElse}
+use Rattle.model.specs.Check.{Check, _⇒_, firstRefusal}
+
+-- "a plan has 1 to 16" boards, and "0 to 64" wires
+abbrev pub processLimit : ℕ
+processLimit = 16
+
+abbrev pub channelLimit : ℕ
+channelLimit = 64
 
 -- "Each runs from one board to another"
 unfoldable pub sender : Topology → ℕ → ℕ
@@ -28,7 +42,8 @@ hasChannel T c = ltb c (T .channels)
 unfoldable pub sameEnds : Topology → ℕ → ℕ → Bool
 sameEnds T d c = eqb (sender T d) (sender T c) && eqb (receiver T d) (receiver T c)
 
--- "Then per wire: 3 an end not in the plan; 4 both ends one board; 5 an earlier wire has the same ends in the same direction."
+-- "Then per wire: 3 an end not in the plan; 4 both ends one board; 5 an earlier wire has the same ends in the same
+-- direction."
 abbrev pub channelChecks : Topology → ℕ → List Check
 channelChecks T c =
     (not (hasProcess T (sender T c) && hasProcess T (receiver T c)) ⇒ UnknownEnd)
@@ -40,13 +55,18 @@ unfoldable pub channelRefusal : Topology → ℕ → Option Refusal
 channelRefusal T c = firstRefusal (channelChecks T c)
 
 -- "1 boards not 1 to 16. 2 over 64 wires."
-abbrev pub sizeChecks : Topology → List Check
-sizeChecks T =
-    (not (leb 1 (T .processes) && leb (T .processes) 16) ⇒ ProcessCount) ∷ (ltb 64 (T .channels) ⇒ ChannelCount) ∷ []
+abbrev pub sizeChecks : ℕ → ℕ → List Check
+sizeChecks processes channels =
+    (not (leb 1 processes && leb processes processLimit) ⇒ ProcessCount) ∷ (ltb channelLimit channels ⇒ ChannelCount) ∷
+    []
 
-unfoldable pub sizeRefusal : Topology → Option Refusal
-sizeRefusal T = firstRefusal (sizeChecks T)
+unfoldable pub sizeRefusal : ℕ → ℕ → Option Refusal
+sizeRefusal processes channels = firstRefusal (sizeChecks processes channels)
 
--- 1 and 2, then 3 to 5 channel by channel: the first channel that offends decides
+-- 3 to 5 channel by channel: the first channel that offends decides
+unfoldable pub channelsRefusal : Topology → Option Refusal
+channelsRefusal T = firstBelow (T .channels) (channelRefusal T)
+
+-- 1 and 2, then 3 to 5
 unfoldable pub topologyRefusal : Topology → Option Refusal
-topologyRefusal T = orElse (sizeRefusal T) (firstBelow (T .channels) (channelRefusal T))
+topologyRefusal T = orElse (sizeRefusal (T .processes) (T .channels)) (channelsRefusal T)

@@ -2,7 +2,7 @@
 use Prim.Native.Nat.{ℕ, _+_, _*_, _%_}
 use mathlib.Core.List.{List, [], _∷_}
 
-unfoldable pub enter : ℕ → ℕ → ℕ
+abbrev pub enter : ℕ → ℕ → ℕ
 enter word body = (31 * word + body) % 4294967296
 
 -- what the bodies, received in order, make of a word

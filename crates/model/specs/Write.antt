@@ -8,8 +8,8 @@ use Rattle.model.specs.declared.Outcome.{Outcome}
 use Rattle.model.specs.declared.Outcome.the-variants.{PowerLost}
 use Rattle.model.specs.declared.Topology.{Topology}
 use Rattle.model.specs.Notation.{tabulate}
-use Rattle.model.specs.Layout.{Log, messageLog, channelLog, countCell, checkpointCell, lineCell}
-use Rattle.model.specs.State.{GlobalState}
+use Rattle.model.specs.Layout.{Log, messageLog, channelLog, countCell, entryCell, physicalCell, lineCell}
+use Rattle.model.specs.State.{GlobalState, LogCounts, countOf}
 
 -- one store of a value into a cell
 pub record Write : Type 0 where
@@ -24,20 +24,28 @@ unfoldable pub writeAll : List ℕ → List Write → List ℕ
 writeAll store [] = store
 writeAll store (w ∷ ws) = writeAll (write store w) ws
 
--- "Begin: 0 into the count of each planned board, rising, then of each planned wire." n is the line that the round is for.
+-- "Begin: 0 into the count of each planned board, rising, then of each planned wire." n is the line that the round is
+-- for.
 unfoldable pub clearWrites : Topology → ℕ → List Write
 clearWrites T n =
     tabulate (T .processes) (λ p. record { cell = countCell n (messageLog p); value = 0 })
     ++ tabulate (T .channels) (λ c. record { cell = countCell n (channelLog c); value = 0 })
 
 -- "Copy: the word."
-unfoldable pub checkpointWrites : ℕ → ℕ → ℕ → List Write
-checkpointWrites n p word = record { cell = checkpointCell n p; value = word } ∷ []
+unfoldable pub physicalWrites : ℕ → ℕ → ℕ → List Write
+physicalWrites n p word = record { cell = physicalCell n p; value = word } ∷ []
 
 -- "A logged take: body, then the raised count." "a logged body goes to the place its log's count in the state names"
 unfoldable pub logWrites : ℕ → Log → ℕ → ℕ → List Write
 logWrites n log count body =
-    record { cell = countCell n log + 1 + count; value = body } ∷ record { cell = countCell n log; value = count + 1 } ∷ []
+    record { cell = entryCell (countCell n log) count; value = body }
+    ∷ record { cell = countCell n log; value = count + 1 }
+    ∷ []
+
+-- a body into each of these logs, in their order; counts are those of the state
+unfoldable pub logsWrites : ℕ → LogCounts → List Log → ℕ → List Write
+logsWrites n counts [] body = []
+logsWrites n counts (log ∷ logs) body = logWrites n log (countOf counts log) body ++ logsWrites n counts logs body
 
 -- "Finish: k + 1 into cell 0."
 unfoldable pub commitWrites : ℕ → List Write
@@ -56,8 +64,8 @@ pub record Answered : Type 0 where
   pub state : GlobalState
   pub store : List ℕ
 
--- "If the step needs more, exactly that many are made, and the answer is "cut" with the state handed in. The answer always tells the stores made."
--- budget: "the number of stores the current lasts for"
+-- "If the step needs more, exactly that many are made, and the answer is "cut" with the state handed in. The answer
+-- always tells the stores made." budget: "the number of stores the current lasts for"
 unfoldable pub underBudget : ℕ → GlobalState → List ℕ → Result → Answered
 underBudget budget s store r =
     record {

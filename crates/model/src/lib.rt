@@ -1,12 +1,19 @@
 // The types that every crate here shares. Their meaning is in specs/: State.antt sees a State as an abstract
 // global state, and everything else is said of that.
 
+// Document 01: "a plan has 1 to 16" boards, "0 to 64" wires, and a wire "holds at most 8 entries".
+pub const PROCESSES: usize = 16;
+
+pub const CHANNELS: usize = 64;
+
+pub const ROOM: usize = 8;
+
 // Document 01's plan: how many processes (boards) and channels (wires) there are, and the two ends of each channel.
 pub struct Topology {
     pub processes: u8,
     pub channels: u8,
-    pub from: [u8; 64],
-    pub to: [u8; 64],
+    pub from: [u8; CHANNELS],
+    pub to: [u8; CHANNELS],
 }
 
 // Document 01's round: idle, copying (the physical phase, with the next process to checkpoint), marking (the
@@ -32,31 +39,31 @@ pub enum Entry {
 // A channel's 8 places, first in first out from place 0. Kind 0 is a message tagged 0, kind 1 a message tagged 1,
 // and any other kind a marker. Places from count on are unused.
 pub struct Channel {
-    pub bodies: [u32; 8],
-    pub kinds: [u8; 8],
+    pub bodies: [u32; ROOM],
+    pub kinds: [u8; ROOM],
     pub count: u8,
 }
 
-// What the round under way has done: the processes with a logical checkpoint (marked boards), the channels that
-// are closed, and those on which the marker was sent (note put).
+// What the round under way has done: the processes that have their logical checkpoint (marked boards), the channels
+// that are closed, and those on which the marker was sent (note put).
 pub struct Flags {
-    pub checkpointed: [bool; 16],
-    pub closed: [bool; 64],
-    pub sent: [bool; 64],
+    pub logical: [bool; PROCESSES],
+    pub closed: [bool; CHANNELS],
+    pub sent: [bool; CHANNELS],
 }
 
 // How many entries the message log of each process and the channel log of each channel has.
 pub struct Counts {
-    pub messages: [u8; 16],
-    pub channels: [u8; 64],
+    pub messages: [u8; PROCESSES],
+    pub channels: [u8; CHANNELS],
 }
 
 pub struct State {
     pub topology: Topology,
     pub round: Round,
-    pub words: [u32; 16],
-    pub tags: [bool; 16],
-    pub channels: [Channel; 64],
+    pub words: [u32; PROCESSES],
+    pub tags: [bool; PROCESSES],
+    pub channels: [Channel; CHANNELS],
     pub flags: Flags,
     pub counts: Counts,
 }
@@ -97,6 +104,12 @@ pub enum Refusal {
     MarkerOnClosed,
     Unsound,
     BadCount,
+}
+
+// What checks say: everything passes, or the first refusal.
+pub enum Verdict {
+    Pass,
+    Refuse(Refusal),
 }
 
 // What a step answers: done; a message received (took), with its body; a marker received (note); refused; or the
