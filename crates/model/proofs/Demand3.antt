@@ -1,48 +1,98 @@
--- Demand 3 (its statement is Demand3 of specs/Claim.antt): after an accepted initialize and any list of calls, a recover is accepted and gives the state
--- at the last recovery line. The invariant holds of every world that such a list reaches (`end-holds`); the companion in Reached.antt rests on it too.
+-- Demand 3 (its statement is Demand3 of specs/Claim.antt): after an accepted initialize and any list of calls, a
+-- recover is accepted and gives the state at the last recovery line. The invariant holds of every world that such a
+-- list reaches (`end-holds`); the companion in Reached.antt rests on it too.
 use Prim.Native.Nat.{ℕ}
-use mathlib.Core.Path.{_≡_, sym, subst, subst₂}
+use mathlib.Core.Path.{_≡_, refl, ap, subst, subst₂, _∙_}
 use mathlib.Core.List.{List, [], _∷_}
 use mathlib.Core.Option.{none}
 use Rattle.model.specs.declared.Topology.{Topology}
-use Rattle.model.specs.declared.Start.{Start}
+use Rattle.model.specs.declared.Step.{Step}
 use Rattle.model.specs.declared.Start.the-variants.{Ready}
 use Rattle.model.specs.Topology.{topologyRefusal}
+use Rattle.model.specs.Outcome.{accepted}
+use Rattle.model.specs.State.{idleState}
 use Rattle.model.specs.Start.{initialize, recover}
 use Rattle.model.specs.Step.{answer}
-use Rattle.model.specs.History.{onStep}
-use Rattle.model.specs.Run.{Call, call, recovery, World, next, run, firstWorld, afterAnswer, afterBegun, countCommit}
-use Rattle.model.specs.Claim.{Demand3}
+use Rattle.model.specs.History.{onRecover}
+use Rattle.model.specs.Run.{Call, call, recovery, World, next, run, firstWorld, replyTo, onReply, onCall}
+use Rattle.model.specs.Run.{stateAfter}
+use Rattle.model.specs.Run.{storeAfter, startOutcome, startedState, commitsAfter, countCommit}
+use Rattle.model.specs.Claim.{Recovered, RecoveredAfter, Demand3}
+use Rattle.model.proofs.laws.Effects.{answer-follows}
 use Rattle.model.proofs.line.Invariant.{Inv}
 use Rattle.model.proofs.line.StepKept.{step-kept}
-use Rattle.model.proofs.line.RecoverKept.{recovers, recover-kept, topology-accepted, initialize-holds}
+use Rattle.model.proofs.line.RecoverKept.{recovers, recover-kept, recovered-state, recovered-store}
+use Rattle.model.proofs.line.RecoverKept.{topology-accepted}
+use Rattle.model.proofs.line.RecoverKept.{initialized-topology, initialized-line, initialize-holds}
 
--- the invariant of a world
-abbrev pub InvOf : Topology → World → Type 0
-InvOf T w = Inv T (w .state) (w .store) (w .history) (w .commits)
+-- the invariant of a world: it is one of this topology, and its line is the number of accepted commits
+pub record InvOf (T : Topology) (w : World) : Type 0 where
+  pub topology : w .state .topology ≡ T
+  pub line : w .state .round .line ≡ w .commits
+  pub holds : Inv (w .state) (w .store) (w .history)
+
+-- what a recover gives in such a world
+recovers-in : (T : Topology) (w : World) → topologyRefusal T ≡ none → InvOf T w → RecoveredAfter T w
+recovers-in T w good i =
+    subst₂ (λ (T′ : Topology) (k : ℕ). topologyRefusal T′ ≡ none → Recovered T′ (recover T′ (w .store))
+    (onRecover (w .history)) k)
+    (i .topology) (i .line) (λ ok. recovers (w .state) (w .store) (w .history) ok (i .holds)) good
+
+-- a step, and a recover, by the topology that the state itself has
+step-keeps : (w : World) (x : Step) (budget : ℕ) → InvOf (w .state .topology) w
+    → InvOf (w .state .topology) (next (w .state .topology) w (call x budget))
+unfolding next replyTo onReply onCall stateAfter storeAfter commitsAfter
+step-keeps w x budget i =
+    let after = answer-follows (w .state) x (w .store) budget in
+    record {
+      topology = after .topology;
+      line = after .line ∙ ap (countCommit x (answer (w .state) x (w .store) budget .outcome)) (i .line);
+      holds = step-kept (w .state) (w .store) (w .history) (i .holds) x budget;
+    }
+
+recover-keeps : (w : World) → topologyRefusal (w .state .topology) ≡ none → InvOf (w .state .topology) w
+    → InvOf (w .state .topology) (next (w .state .topology) w recovery)
+unfolding next replyTo onReply onCall stateAfter storeAfter commitsAfter startOutcome startedState accepted idleState
+recover-keeps w good i =
+    rw (
+      recovers (w .state) (w .store) (w .history) good (i .holds) .accepted,
+      recovered-state (w .state) (w .store) (w .history) good (i .holds),
+      recovered-store (w .state) (w .store) (w .history) good (i .holds),
+    )
+    (record {
+      topology = refl;
+      line = i .line;
+      holds = recover-kept (w .state) (w .store) (w .history) good (i .holds);
+    })
 
 module _ (T : Topology) (good : topologyRefusal T ≡ none) where
   call-keeps : (w : World) → InvOf T w → (c : Call) → InvOf T (next T w c)
-  unfolding next afterAnswer afterBegun
-  call-keeps w i (call x budget) =
-      -- at the topology and the line that the state itself has
-      subst₂
-      (λ (T′ : Topology) (k : ℕ). topologyRefusal T′ ≡ none → Inv T′ (w .state) (w .store) (w .history) k → Inv T′ (answer (w .state) x (w .store) budget .state) (answer (w .state) x (w .store) budget .store) (onStep T′ x (answer (w .state) x (w .store) budget .outcome) (w .history)) (countCommit x (answer (w .state) x (w .store) budget .outcome) k))
-      (i .topology) (i .line) (λ g j. step-kept (w .state) (w .store) (w .history) g j x budget) good i
-  call-keeps w i recovery =
-      subst (λ (r : Start). InvOf T (afterBegun r (recover T (w .store)) w)) (sym (recovers T good (w .state) (w .store) (w .history) (w .commits) i .accepted))
-      (recover-kept T good (w .state) (w .store) (w .history) (w .commits) i)
+  call-keeps w i c =
+      subst (λ (T′ : Topology). topologyRefusal T′ ≡ none → InvOf T′ w → InvOf T′ (next T′ w c)) (i .topology) (own c)
+      good i
+    where
+      own : (c : Call) → topologyRefusal (w .state .topology) ≡ none → InvOf (w .state .topology) w
+          → InvOf (w .state .topology) (next (w .state .topology) w c)
+      own (call x budget) ok j = step-keeps w x budget j
+      own recovery ok j = recover-keeps w ok j
 
   run-keeps : (w : World) → InvOf T w → (calls : List Call) → InvOf T (run T w calls)
   unfolding run
   run-keeps w i [] = i
   run-keeps w i (c ∷ cs) = run-keeps (next T w c) (call-keeps w i c) cs
 
-pub end-holds : (T : Topology) (store : List ℕ) → initialize T store .start ≡ Ready → (calls : List Call) → InvOf T (run T (firstWorld T store) calls)
-unfolding firstWorld
-end-holds T store accepted calls = run-keeps T (topology-accepted T store accepted) (firstWorld T store) (initialize-holds T store accepted) calls
+module _ (T : Topology) (store : List ℕ) (ready : initialize T store .start ≡ Ready) (calls : List Call) where
+  pub end-holds : InvOf T (run T (firstWorld T store) calls)
+  unfolding firstWorld
+  end-holds =
+      run-keeps T (topology-accepted T store ready) (firstWorld T store)
+      (record {
+        topology = initialized-topology T store ready;
+        line = initialized-line T store ready;
+        holds = initialize-holds T store ready;
+      })
+      calls
 
 pub demand-3 : Demand3
-demand-3 T store accepted calls =
-    let end : World = run T (firstWorld T store) calls in
-    recovers T (topology-accepted T store accepted) (end .state) (end .store) (end .history) (end .commits) (end-holds T store accepted calls)
+demand-3 T store ready calls =
+    recovers-in T (run T (firstWorld T store) calls) (topology-accepted T store ready) (end-holds T store ready calls)

@@ -1,8 +1,8 @@
--- The companion of demand 3 (its statement is Demand3Companion of specs/Claim.antt): a world that a list of calls reaches has a sound state, a step there
--- is refused with 8 to 13 alone, and a recover not at all.
+-- The companion of demand 3 (its statement is Demand3Companion of specs/Claim.antt): a world that a list of calls
+-- reaches has a sound state, a step there is refused with 8 to 13 alone, and a recover not at all.
 use Prim.Native.Nat.{ℕ, _<_, _≤_}
 use mathlib.Core.Path.{_≡_, refl, sym, ap, subst}
-use mathlib.Core.Bool.{Bool, true, false, _&&_}
+use mathlib.Core.Bool.{Bool, true, false, _&&_, Bool·beq}
 use mathlib.Core.List.{List, [], _∷_}
 use mathlib.Core.Option.{Option, none, some, Option·some-ne-none}
 use lib.ListN.{length}
@@ -14,28 +14,35 @@ use Rattle.model.specs.declared.Phase.the-variants as phase
 use Rattle.model.specs.declared.Entry.{Entry}
 use Rattle.model.specs.declared.Entry.the-variants.{Message, Marker}
 use Rattle.model.specs.declared.Step.{Step}
-use Rattle.model.specs.declared.Step.the-variants.{Send, Receive, Begin, PhysicalCheckpoint, LogicalCheckpoint, SendMarker, Commit, Abort}
+use Rattle.model.specs.declared.Step.the-variants.{Send, Receive, Begin, PhysicalCheckpoint}
+use Rattle.model.specs.declared.Step.the-variants.{LogicalCheckpoint, SendMarker, Commit, Abort}
 use Rattle.model.specs.declared.Refusal.{Refusal}
 use Rattle.model.specs.declared.Outcome.the-variants.{Refused, PowerLost}
 use Rattle.model.specs.declared.Start.{Start}
 use Rattle.model.specs.declared.Start.the-variants as start
-use Rattle.model.specs.Notation.{Check, firstRefusal}
-use Rattle.model.specs.Topology.{hasChannel}
+use Rattle.model.specs.Check.{Check, firstRefusal}
+use Rattle.model.specs.Topology.{receiver, hasChannel}
 use Rattle.model.specs.Layout.{storeCells}
 use Rattle.model.specs.State.{GlobalState}
 use Rattle.model.specs.Sound.{sound}
 use Rattle.model.specs.Outcome.{refusalNumber, accepted}
 use Rattle.model.specs.Write.{underBudget}
-use Rattle.model.specs.Step.{isLogical, markerFirst, markerOnClosed, ownChecks, stepChecks, quietly, receive, effect, resultOf, step, answer}
+use Rattle.model.specs.Receive.{Reaction, logsOnly, reactionTo}
+use Rattle.model.specs.Step.{reaction, firstReaction, markerOnClosed, priorChecks, roomChecks, logChecks}
+use Rattle.model.specs.Step.{ownChecks}
+use Rattle.model.specs.Step.{stepChecks, quietly, resultOf, step, answer}
 use Rattle.model.specs.Start.{recover}
 use Rattle.model.specs.History.{History}
-use Rattle.model.specs.Run.{Call, call, recovery, World, next, run, firstWorld, afterAnswer, afterBegun}
+use Rattle.model.specs.Run.{Call, call, recovery, World, next, run, firstWorld, stateAfter, startedState}
 use Rattle.model.specs.Claim.{Demand3Companion}
-use Rattle.model.proofs.laws.Laws.{and-left, and-right, true-is-not-false, Tested, holds, fails, test}
-use Rattle.model.proofs.laws.Refused.{below, Powered, lost, lasts, power-cases}
+use Rattle.model.proofs.laws.Tests.{and-left, and-right, true-is-not-false, Tested, holds, fails, test, either}
+use Rattle.model.proofs.laws.Passing.{below}
+use Rattle.model.proofs.laws.Calls.{Powered, lost, lasts, power-cases}
+use Rattle.model.proofs.laws.Effects.{effect-accepted}
 use Rattle.model.proofs.Soundness.{initialize-sound, answer-sound, recover-sound}
-use Rattle.model.proofs.line.ChannelState.{Logical, open-at-marker}
-use Rattle.model.proofs.line.Invariant.{InRound, logical, Inv}
+use Rattle.model.proofs.line.ChannelState.{open-at-marker}
+use Rattle.model.proofs.line.Invariant.{Inv}
+use Rattle.model.proofs.line.Phases.{channel-in}
 use Rattle.model.proofs.Demand3.{end-holds, demand-3}
 
 -- the refusals that are left to a step: 8 to 13
@@ -48,7 +55,8 @@ Left r = isLeft r ≡ true
 -- whichever check of the list is the first to fail has one of these
 data AllLeft : List Check → Type 0 where
   end : AllLeft []
-  check : {c : Check} {cs : List Check} → (c .fails ≡ true → Left (c .refusal)) → (c .fails ≡ false → AllLeft cs) → AllLeft (c ∷ cs)
+  check : {c : Check} {cs : List Check} → (c .fails ≡ true → Left (c .refusal)) → (c .fails ≡ false → AllLeft cs)
+      → AllLeft (c ∷ cs)
 
 left : {c : Check} {cs : List Check} → Left (c .refusal) → AllLeft cs → AllLeft (c ∷ cs)
 left p q = check (λ _. p) (λ _. q)
@@ -65,61 +73,50 @@ first-left (c ∷ cs) r (check here later) e = go (test (c .fails)) (first-left 
         subst Left same (here f)
     go (fails f) rest = rest (later f) (rw f at e)
 
--- an effect is not refused
-receive-accepted : (s : GlobalState) (c : ℕ) (es : List Entry) → accepted (receive s c es .outcome) ≡ true
-unfolding receive quietly accepted
-receive-accepted s c [] = refl
-receive-accepted s c (Message b t ∷ es) = refl
-receive-accepted s c (Marker ∷ es) = refl
-
-effect-accepted : (s : GlobalState) (x : Step) → accepted (effect s x .outcome) ≡ true
-unfolding effect quietly accepted
-effect-accepted s (Send c b) = refl
-effect-accepted s (Receive c) = receive-accepted s c (s .channel c)
-effect-accepted s Begin = refl
-effect-accepted s (PhysicalCheckpoint p) = refl
-effect-accepted s (LogicalCheckpoint p) = refl
-effect-accepted s (SendMarker c) = refl
-effect-accepted s Commit = refl
-effect-accepted s Abort = refl
-
--- so a refused step is refused by its first check that fails
-refused-by : (s : GlobalState) (x : Step) (st : List ℕ) (budget : ℕ) (r : Refusal) → answer s x st budget .outcome ≡ Refused r
+-- an effect is not refused, so a refused step is refused by its first check that fails
+refused-by : (s : GlobalState) (x : Step) (st : List ℕ) (budget : ℕ) (r : Refusal)
+    → answer s x st budget .outcome ≡ Refused r
     → firstRefusal (stepChecks s (length st) x) ≡ some r
 unfolding answer step resultOf quietly accepted
 refused-by s x st budget r e = go (firstRefusal (stepChecks s (length st) x)) (power-cases budget s st _) e
   where
-    go : (o : Option Refusal) → Powered budget s st (resultOf o s x) → underBudget budget s st (resultOf o s x) .outcome ≡ Refused r → o ≡ some r
+    go : (o : Option Refusal) → Powered budget s st (resultOf o s x)
+        → underBudget budget s st (resultOf o s x) .outcome ≡ Refused r → o ≡ some r
     go none (lost l q) f = let z : PowerLost ≡ Refused r = rw q at f in cc
     go none (lasts l q) f = true-is-not-false (effect-accepted s x) (ap accepted (rw q at f))
     go (some r′) (lost l q) f = let z : PowerLost ≡ Refused r = rw q at f in cc
     go (some r′) (lasts l q) f = let z : Refused r′ ≡ Refused r = rw q at f in cc
 
--- 14: where a marker is first its channel isn't closed
-marker-open : {t a r m k : Bool} {log out in′ : List ℕ} (es : List Entry) → Logical t a r m k es log out in′ → (markerFirst es && k) ≡ false
-unfolding markerFirst
-marker-open [] l = refl
-marker-open (Message b u ∷ es) l = refl
-marker-open (Marker ∷ es) l = open-at-marker l .1
+-- 14: a message closes no channel, and where a marker is first in the logical phase its channel isn't closed
+message-open : (ph : Phase) (c r : ℕ) (logical tag : Bool) (b : ℕ) (t : Bool)
+    → reactionTo ph c r logical tag (Message b t) .closes ≡ false
+unfolding reactionTo logsOnly
+message-open phase.Idle c r logical tag b t = refl
+message-open (phase.Physical next) c r logical tag b t = refl
+message-open phase.Logical c r true tag b t = refl
+message-open phase.Logical c r false tag b t =
+    either (λ (x : Reaction). x .closes ≡ false) (Bool·beq t tag) _ _ refl refl
 
-never-on-closed : {T : Topology} {s : GlobalState} {st : List ℕ} {h : History} (c : ℕ) → c < T .channels → (phase : Phase) → InRound T st s h phase
-    → (isLogical phase && markerFirst (s .channel c) && s .progress .closed c) ≡ false
-unfolding isLogical
-never-on-closed c l phase.Idle r = refl
-never-on-closed c l (phase.Physical next) r = refl
-never-on-closed {s = s} c l phase.Logical (logical t m) = marker-open (s .channel c) (m .channels c l)
-
-module _ (T : Topology) (s : GlobalState) (st : List ℕ) (h : History) (k : ℕ) (fit : sound s ≡ true) (i : Inv T s st h k) where
+module _ (s : GlobalState) (st : List ℕ) (h : History) (fit : sound s ≡ true) (i : Inv s st h) where
   not-on-closed : (c : ℕ) → c < s .topology .channels → markerOnClosed s c ≡ false
-  unfolding markerOnClosed
-  not-on-closed c l = never-on-closed c (subst (λ (T′ : Topology). c < T′ .channels) (i .topology) l) (s .round .phase) (i .round)
+  unfolding markerOnClosed firstReaction reaction reactionTo logsOnly
+  not-on-closed c l = go (s .round .phase) refl (s .channel c) refl
+    where
+      go : (ph : Phase) → s .round .phase ≡ ph → (es : List Entry) → s .channel c ≡ es
+          → (firstReaction s c es .closes && s .progress .closed c) ≡ false
+      go ph e [] is = refl
+      go ph e (Message b t ∷ es) is = rw (message-open (s .round .phase) c (receiver (s .topology) c) _ _ b t)
+      go phase.Idle e (Marker ∷ es) is = rw e
+      go (phase.Physical next) e (Marker ∷ es) is = rw e
+      go phase.Logical e (Marker ∷ es) is = rw e (open-at-marker (rw is at (channel-in i e c l .round .balanced)) .1)
 
   own-left : (x : Step) → AllLeft (ownChecks s x)
-  unfolding ownChecks refusalNumber hasChannel
+  unfolding ownChecks priorChecks roomChecks logChecks hasChannel
   own-left (Send c b) = left refl (left refl end)
   own-left (Receive c) =
       check (λ _. refl)
-      (λ e. left refl (check (λ f. true-is-not-false f (not-on-closed c (below c (s .topology .channels) e))) (λ _. left refl end)))
+      (λ e. left refl
+      (check (λ f. true-is-not-false f (not-on-closed c (below c (s .topology .channels) e))) (λ _. left refl end)))
   own-left Begin = left refl (left refl end)
   own-left (PhysicalCheckpoint p) = left refl (left refl end)
   own-left (LogicalCheckpoint p) = left refl (left refl end)
@@ -135,15 +132,17 @@ module _ (T : Topology) (s : GlobalState) (st : List ℕ) (h : History) (k : ℕ
 
 -- soundness lasts over the calls
 call-sound : (T : Topology) (w : World) → sound (w .state) ≡ true → (c : Call) → sound (next T w c .state) ≡ true
-unfolding next afterAnswer afterBegun
+unfolding next stateAfter startedState
 call-sound T w h (call x budget) = answer-sound (w .state) x (w .store) budget h
 call-sound T w h recovery = go (recover T (w .store) .start) refl
   where
-    go : (r : Start) → recover T (w .store) .start ≡ r → sound (afterBegun r (recover T (w .store)) w .state) ≡ true
+    go : (r : Start) → recover T (w .store) .start ≡ r
+        → sound (startedState r (recover T (w .store) .state) (w .state)) ≡ true
     go start.Ready e = recover-sound T (w .store) e
     go (start.Refused r) e = h
 
-run-sound : (T : Topology) (w : World) → sound (w .state) ≡ true → (calls : List Call) → sound (run T w calls .state) ≡ true
+run-sound : (T : Topology) (w : World) → sound (w .state) ≡ true → (calls : List Call)
+    → sound (run T w calls .state) ≡ true
 unfolding run
 run-sound T w h [] = h
 run-sound T w h (c ∷ cs) = run-sound T (next T w c) (call-sound T w h c) cs
@@ -158,7 +157,7 @@ reached T store ready calls =
       steps = λ x budget r e.
           in-range (refusalNumber r)
           (first-left (stepChecks (w .state) (length (w .store)) x) r
-          (step-left T (w .state) (w .store) (w .history) (w .commits) fit (end-holds T store ready calls) x)
+          (step-left (w .state) (w .store) (w .history) fit (end-holds T store ready calls .holds) x)
           (refused-by (w .state) x (w .store) budget r e));
       recovers = demand-3 T store ready calls .accepted;
     }

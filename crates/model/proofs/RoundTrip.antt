@@ -1,5 +1,5 @@
--- The records' round trip: what the writer writes reads back as the same record, and bytes that read are the bytes that the writer gives.
--- Both are shown of any fields first, and then of the table of kinds.
+-- The records' round trip: what the writer writes reads back as the same record, and bytes that read are the bytes that
+-- the writer gives. Both are shown of any fields first, and then of the table of kinds.
 use Prim.Native.Nat.{ℕ, suc, _<_}
 use mathlib.Core.Path.{_≡_, refl, sym, subst, _∙_}
 use mathlib.Core.Bool.{Bool, true, cond, _&&_}
@@ -9,10 +9,14 @@ use lib.Dec.{eqb}
 use borrow.Author.Tests.{eqb-true}
 use Rattle.model.specs.declared.Record.{Record}
 use Rattle.model.specs.declared.Record.the-variants.{Call, Recover}
-use Rattle.model.specs.declared.Step.the-variants.{Send, Receive, Begin, PhysicalCheckpoint, LogicalCheckpoint, SendMarker, Commit, Abort}
-use Rattle.model.specs.Record.{Fields, absent, fieldsOf, provided, recordOf, mapOf, bodyBytes, fieldBytes, writeFields, writeRecord, AreBytes, readByte, readBody, readField, stands, goodMap, fieldsAfter, readFields, withRest, readRecord}
-use Rattle.model.proofs.laws.Laws.{test, Tested, holds, fails, and-left, and-right}
-use Rattle.model.proofs.laws.RecordLaws.{same, then, both, Maps, body-reads, body-written, byte-written, is-zero, field-reads, field-written, rest-bytes, map-reads, map-written}
+use Rattle.model.specs.declared.Step.the-variants.{Send, Receive, Begin, PhysicalCheckpoint, LogicalCheckpoint}
+use Rattle.model.specs.declared.Step.the-variants.{SendMarker, Commit, Abort}
+use Rattle.model.specs.Record.{Fields, absent, fieldsOf, provided, recordOf, mapOf, bodyBytes, fieldBytes}
+use Rattle.model.specs.Record.{writeFields, writeRecord, AreBytes, readByte, readBody, readField, stands, goodMap}
+use Rattle.model.specs.Record.{fieldsAfter, readFields, withRest, readRecord}
+use Rattle.model.proofs.laws.Tests.{test, Tested, holds, fails, and-left, and-right}
+use Rattle.model.proofs.laws.RecordLaws.{same, then, both, Maps, body-reads, body-written, byte-written, is-zero}
+use Rattle.model.proofs.laws.RecordLaws.{field-reads, field-written, rest-bytes, map-reads, map-written}
 
 -- the fields' bytes, one part after the other
 fields-bytes :
@@ -44,14 +48,21 @@ after-written :
     readField (stands 8 m) readBody bytes₂ ≡ some (f .body, rest) →
     m ∷ f .kind ∷ bytes ≡ writeFields f ++ rest
 after-written m f bytes bytes₁ bytes₂ rest good h ep ec eb =
-    let p = field-written (stands 2 m) readByte bytes (f .process) (f .process ∷ []) bytes₁ (byte-written bytes (f .process) bytes₁) ep in
-    let c = field-written (stands 4 m) readByte bytes₁ (f .channel) (f .channel ∷ []) bytes₂ (byte-written bytes₁ (f .channel) bytes₂) ec in
+    let p =
+    field-written (stands 2 m) readByte bytes (f .process) (f .process ∷ []) bytes₁
+    (byte-written bytes (f .process) bytes₁) ep in
+    let c =
+    field-written (stands 4 m) readByte bytes₁ (f .channel) (f .channel ∷ []) bytes₂
+    (byte-written bytes₁ (f .channel) bytes₂) ec in
     let h₂ = rest-bytes c (rest-bytes p h) in
-    let b = field-written (stands 8 m) readBody bytes₂ (f .body) (bodyBytes (f .body)) rest (body-written bytes₂ (f .body) rest h₂) eb in
+    let b =
+    field-written (stands 8 m) readBody bytes₂ (f .body) (bodyBytes (f .body)) rest
+    (body-written bytes₂ (f .body) rest h₂) eb in
     let map = map-written m f (record { good = good; process = p .present; channel = c .present; body = b .present }) in
     rw (fields-bytes f rest) (cc (map, p .written, c .written, b .written))
 
-fields-written : (bytes : List ℕ) (f : Fields) (rest : List ℕ) → AreBytes bytes → readFields bytes ≡ some (f, rest) → bytes ≡ writeFields f ++ rest
+fields-written : (bytes : List ℕ) (f : Fields) (rest : List ℕ) → AreBytes bytes → readFields bytes ≡ some (f, rest)
+    → bytes ≡ writeFields f ++ rest
 unfolding readFields fieldsAfter
 fields-written [] f rest h e = absurd (Option·none-ne-some (f, rest) e)
 fields-written (m ∷ []) f rest h e = absurd (Option·none-ne-some (f, rest) e)
@@ -109,12 +120,14 @@ module _ (f : Fields) where
   only-channel :
       {k : ℕ} → f .kind ≡ k → (absent (f .process) && absent (f .body)) ≡ true →
       _≡_ {A = Fields} (record { kind = k; process = 0; channel = f .channel; body = 0 }) f
-  only-channel k u = let (p, b) = last-is-zero (absent (f .process)) (f .body) u in fields-are k (is-zero (f .process) p) refl b
+  only-channel k u =
+      let (p, b) = last-is-zero (absent (f .process)) (f .body) u in fields-are k (is-zero (f .process) p) refl b
 
   only-process :
       {k : ℕ} → f .kind ≡ k → (absent (f .channel) && absent (f .body)) ≡ true →
       _≡_ {A = Fields} (record { kind = k; process = f .process; channel = 0; body = 0 }) f
-  only-process k u = let (c, b) = last-is-zero (absent (f .channel)) (f .body) u in fields-are k refl (is-zero (f .channel) c) b
+  only-process k u =
+      let (c, b) = last-is-zero (absent (f .channel)) (f .body) u in fields-are k refl (is-zero (f .channel) c) b
 
   only-kind :
       {k : ℕ} → f .kind ≡ k → (absent (f .process) && absent (f .channel) && absent (f .body)) ≡ true →
@@ -145,7 +158,8 @@ unfolding withRest
 with-rest none after r rest e = absurd (Option·none-ne-some (r, rest) e)
 with-rest (some s) after r rest e = (rw (same e .value), same e .rest)
 
--- What is written reads back as that record, with the rest left over. The body has to fit 32 bits; process and channel may be any numbers.
+-- What is written reads back as that record, with the rest left over. The body has to fit 32 bits; process and channel
+-- may be any numbers.
 pub written-reads-back :
     (r : Record) (rest : List ℕ) →
     fieldsOf r .body < 4294967296 → readRecord (writeRecord r ++ rest) ≡ some (r, rest)

@@ -1,7 +1,12 @@
--- Laws of the definitions that more than one proof needs.
-pub mod Laws
-pub mod Refused
+-- Laws of the definitions, from the notation up: what every other proof, of this crate and of those above it, may cite.
+pub mod Tests
+pub mod Functions
+pub mod Lists
+pub mod ChannelLaws
+pub mod Passing
+pub mod Calls
 pub mod TopologyLaws
+pub mod SoundLaws
 pub mod HistoryLaws
 pub mod RecordLaws
-pub mod SoundFacts
+pub mod Effects

@@ -1,20 +1,23 @@
--- The invariant behind demand 3, and that every step, initialize and recover keep it.
+-- Why every step keeps the invariant, process part and channel part apart.
+pub mod Values
 pub mod ChannelState
 pub mod Invariant
-pub mod Kept
+pub mod Books
+pub mod ProcessState
+pub mod ChannelKept
 pub mod SendKept
-pub mod ReceiveFlow
-pub mod LogKept
-pub mod CheckpointKept
-pub mod ReceivePlain
-pub mod ReceiveLogical
-pub mod ReceiveHistory
-pub mod ReceiveResult
-pub mod ReceiveKept
+pub mod Phases
+pub mod LogicalKept
 pub mod MarkerKept
 pub mod AbortKept
-pub mod CommitKept
+pub mod Frames
 pub mod BeginKept
 pub mod PhysicalKept
+pub mod CommitKept
+pub mod ReceiveHistory
+pub mod Delivered
+pub mod LogFrames
+pub mod MessageKept
+pub mod ReceiveKept
 pub mod StepKept
 pub mod RecoverKept

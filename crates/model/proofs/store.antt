@@ -1,6 +1,6 @@
--- The store layer: what the writes of each step do to what the two slots hold.
+-- What writes do to the store: to one cell, and to what the two slots hold.
 pub mod Writes
 pub mod Sizes
 pub mod Addresses
 pub mod ZeroWrites
-pub mod Store
+pub mod Slots

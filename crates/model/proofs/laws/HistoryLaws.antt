@@ -1,4 +1,5 @@
--- Laws of the histories: one more event at the end, what stands before a mark, and where the n-th send on a channel stands.
+-- Laws of the histories: one more event at the end, what stands before a mark, and where the n-th send on a channel
+-- stands.
 use Prim.Native.Nat.{ℕ, zero, suc, _<_, _≤_, zero-le}
 use mathlib.Core.Path.{_≡_, refl, sym, ap, _∙_}
 use mathlib.Core.Bool.{Bool, true, false, cond}
@@ -9,7 +10,9 @@ use lib.Seq.{take-length}
 use borrow.Author.Tests.{eq-eqb, ne-eqb}
 use native.Mathlib.Omega.{arith}
 use Rattle.model.specs.Word.{enter, replay}
-use Rattle.model.specs.History.{Event, Direction, sent, received, isOn, sameDirection, bodiesOn, receivedBodies, placeOfSend}
+use Rattle.model.specs.History.{Event, Direction, sent, received, isOn, sameDirection, bodiesOn, receivedBodies}
+use Rattle.model.specs.History.{placeOfSend}
+use Rattle.model.proofs.laws.Tests.{Tested, holds, fails, test}
 
 -- the word that the receives of a history make from 0
 unfoldable pub wordOf : List Event → ℕ
@@ -25,12 +28,15 @@ pub data Marked (n : ℕ) : Bool → Option ℕ → Type 0 where
   unmarked : Marked n false none
   marked : {m : ℕ} → m ≤ n → Marked n true (some m)
 
-pub bodiesOn-append : (d : Direction) (c : ℕ) (xs ys : List Event) → bodiesOn d c (xs ++ ys) ≡ bodiesOn d c xs ++ bodiesOn d c ys
+pub bodiesOn-append : (d : Direction) (c : ℕ) (xs ys : List Event)
+    → bodiesOn d c (xs ++ ys) ≡ bodiesOn d c xs ++ bodiesOn d c ys
 unfolding bodiesOn
 bodiesOn-append d c [] ys = refl
 bodiesOn-append d c (x ∷ xs) ys = go (isOn d c x) (bodiesOn-append d c xs ys)
   where
-    go : (t : Bool) → bodiesOn d c (xs ++ ys) ≡ bodiesOn d c xs ++ bodiesOn d c ys → cond t (x .body ∷ bodiesOn d c (xs ++ ys)) (bodiesOn d c (xs ++ ys)) ≡ cond t (x .body ∷ bodiesOn d c xs) (bodiesOn d c xs) ++ bodiesOn d c ys
+    go : (t : Bool) → bodiesOn d c (xs ++ ys) ≡ bodiesOn d c xs ++ bodiesOn d c ys
+        → cond t (x .body ∷ bodiesOn d c (xs ++ ys)) (bodiesOn d c (xs ++ ys))
+        ≡ cond t (x .body ∷ bodiesOn d c xs) (bodiesOn d c xs) ++ bodiesOn d c ys
     go true e = ap (λ (l : List ℕ). x .body ∷ l) e
     go false e = e
 
@@ -39,7 +45,9 @@ unfolding receivedBodies
 received-append [] ys = refl
 received-append (x ∷ xs) ys = go (sameDirection received (x .direction)) (received-append xs ys)
   where
-    go : (t : Bool) → receivedBodies (xs ++ ys) ≡ receivedBodies xs ++ receivedBodies ys → cond t (x .body ∷ receivedBodies (xs ++ ys)) (receivedBodies (xs ++ ys)) ≡ cond t (x .body ∷ receivedBodies xs) (receivedBodies xs) ++ receivedBodies ys
+    go : (t : Bool) → receivedBodies (xs ++ ys) ≡ receivedBodies xs ++ receivedBodies ys
+        → cond t (x .body ∷ receivedBodies (xs ++ ys)) (receivedBodies (xs ++ ys))
+        ≡ cond t (x .body ∷ receivedBodies xs) (receivedBodies xs) ++ receivedBodies ys
     go true e = ap (λ (l : List ℕ). x .body ∷ l) e
     go false e = e
 
@@ -61,11 +69,13 @@ abbrev pub receivedOn : ℕ → ℕ → Event
 receivedOn c b = record { direction = received; channel = c; body = b }
 
 -- an event of its own direction and channel is seen, any other is not
-pub sees : (d : Direction) (c : ℕ) (xs : List Event) (e : Event) → isOn d c e ≡ true → bodiesOn d c (xs ++ (e ∷ [])) ≡ bodiesOn d c xs ++ (e .body ∷ [])
+pub sees : (d : Direction) (c : ℕ) (xs : List Event) (e : Event) → isOn d c e ≡ true
+    → bodiesOn d c (xs ++ (e ∷ [])) ≡ bodiesOn d c xs ++ (e .body ∷ [])
 unfolding bodiesOn
 sees d c xs e t = rw (bodiesOn-append d c xs (e ∷ []), t)
 
-pub unseen : (d : Direction) (c : ℕ) (xs : List Event) (e : Event) → isOn d c e ≡ false → bodiesOn d c (xs ++ (e ∷ [])) ≡ bodiesOn d c xs
+pub unseen : (d : Direction) (c : ℕ) (xs : List Event) (e : Event) → isOn d c e ≡ false
+    → bodiesOn d c (xs ++ (e ∷ [])) ≡ bodiesOn d c xs
 unfolding bodiesOn
 unseen d c xs e t = rw (bodiesOn-append d c xs (e ∷ []), t) (append-nil _)
 
@@ -107,33 +117,45 @@ pub before-end : (xs : List Event) → before (some (length xs)) xs ≡ xs
 unfolding before
 before-end xs = take-length xs
 
--- With at most n sends on c in the first m events, the send that has n before it stands at place m or later; with more, before m.
-pub place-late : (c m n : ℕ) (es : List Event) → m ≤ length es → length (bodiesOn sent c (take m es)) ≤ n → n < length (bodiesOn sent c es) → m ≤ placeOfSend c n es
+-- With at most n sends on c in the first m events, the send that has n before it stands at place m or later; with more,
+-- before m.
+abbrev sentWithin : ℕ → ℕ → List Event → ℕ
+sentWithin c m es = length (bodiesOn sent c (take m es))
+
+abbrev Late : ℕ → ℕ → ℕ → List Event → Type 0
+Late c m n es = m ≤ length es → sentWithin c m es ≤ n → n < length (bodiesOn sent c es) → m ≤ placeOfSend c n es
+
+pub place-late : (c m n : ℕ) (es : List Event) → Late c m n es
 unfolding bodiesOn placeOfSend
 place-late c zero n es l p q = zero-le
 place-late c (suc m) n [] l p q = absurd (omega arith)
-place-late c (suc m) zero (e ∷ es) l p q = go (isOn sent c e) (place-late c m zero es) p q
+place-late c (suc m) zero (e ∷ es) l p q = go (test (isOn sent c e)) (place-late c m zero es)
   where
-    go : (t : Bool) → (m ≤ length es → length (bodiesOn sent c (take m es)) ≤ 0 → 0 < length (bodiesOn sent c es) → m ≤ placeOfSend c zero es) → length (cond t (e .body ∷ bodiesOn sent c (take m es)) (bodiesOn sent c (take m es))) ≤ 0 → 0 < length (cond t (e .body ∷ bodiesOn sent c es) (bodiesOn sent c es)) → suc m ≤ cond t 0 (suc (placeOfSend c zero es))
-    go true ih p q = absurd (omega arith)
-    go false ih p q = let h : m ≤ placeOfSend c zero es = ih (omega arith) p q in omega arith
-place-late c (suc m) (suc n) (e ∷ es) l p q = go (isOn sent c e) (place-late c m n es) (place-late c m (suc n) es) p q
+    go : Tested (isOn sent c e) → Late c m zero es → suc m ≤ placeOfSend c zero (e ∷ es)
+    go (holds t) ih = absurd (omega (arith, rw t at p))
+    go (fails t) ih = rw t (omega (arith, ih (omega arith) (rw t at p) (rw t at q)))
+place-late c (suc m) (suc n) (e ∷ es) l p q =
+    go (test (isOn sent c e)) (place-late c m n es) (place-late c m (suc n) es)
   where
-    go : (t : Bool) → (m ≤ length es → length (bodiesOn sent c (take m es)) ≤ n → n < length (bodiesOn sent c es) → m ≤ placeOfSend c n es) → (m ≤ length es → length (bodiesOn sent c (take m es)) ≤ suc n → suc n < length (bodiesOn sent c es) → m ≤ placeOfSend c (suc n) es) → length (cond t (e .body ∷ bodiesOn sent c (take m es)) (bodiesOn sent c (take m es))) ≤ suc n → suc n < length (cond t (e .body ∷ bodiesOn sent c es) (bodiesOn sent c es)) → suc m ≤ suc (cond t (placeOfSend c n es) (placeOfSend c (suc n) es))
-    go true ih₁ ih₂ p q = let h : m ≤ placeOfSend c n es = ih₁ (omega arith) (omega arith) (omega arith) in omega arith
-    go false ih₁ ih₂ p q = let h : m ≤ placeOfSend c (suc n) es = ih₂ (omega arith) p q in omega arith
+    go : Tested (isOn sent c e) → Late c m n es → Late c m (suc n) es → suc m ≤ placeOfSend c (suc n) (e ∷ es)
+    go (holds t) fewer ih =
+        rw t (omega (arith, fewer (omega arith) (omega (arith, rw t at p)) (omega (arith, rw t at q))))
+    go (fails t) fewer ih = rw t (omega (arith, ih (omega arith) (rw t at p) (rw t at q)))
 
-pub place-early : (c m n : ℕ) (es : List Event) → n < length (bodiesOn sent c (take m es)) → placeOfSend c n es < m
+abbrev Early : ℕ → ℕ → ℕ → List Event → Type 0
+Early c m n es = n < sentWithin c m es → placeOfSend c n es < m
+
+pub place-early : (c m n : ℕ) (es : List Event) → Early c m n es
 unfolding bodiesOn placeOfSend
 place-early c zero n es p = absurd (omega arith)
 place-early c (suc m) n [] p = absurd (omega arith)
-place-early c (suc m) zero (e ∷ es) p = go (isOn sent c e) (place-early c m zero es) p
+place-early c (suc m) zero (e ∷ es) p = go (test (isOn sent c e)) (place-early c m zero es)
   where
-    go : (t : Bool) → (0 < length (bodiesOn sent c (take m es)) → placeOfSend c zero es < m) → 0 < length (cond t (e .body ∷ bodiesOn sent c (take m es)) (bodiesOn sent c (take m es))) → cond t 0 (suc (placeOfSend c zero es)) < suc m
-    go true ih p = omega arith
-    go false ih p = let h : placeOfSend c zero es < m = ih p in omega arith
-place-early c (suc m) (suc n) (e ∷ es) p = go (isOn sent c e) (place-early c m n es) (place-early c m (suc n) es) p
+    go : Tested (isOn sent c e) → Early c m zero es → placeOfSend c zero (e ∷ es) < suc m
+    go (holds t) ih = rw t (omega arith)
+    go (fails t) ih = rw t (omega (arith, ih (rw t at p)))
+place-early c (suc m) (suc n) (e ∷ es) p = go (test (isOn sent c e)) (place-early c m n es) (place-early c m (suc n) es)
   where
-    go : (t : Bool) → (n < length (bodiesOn sent c (take m es)) → placeOfSend c n es < m) → (suc n < length (bodiesOn sent c (take m es)) → placeOfSend c (suc n) es < m) → suc n < length (cond t (e .body ∷ bodiesOn sent c (take m es)) (bodiesOn sent c (take m es))) → suc (cond t (placeOfSend c n es) (placeOfSend c (suc n) es)) < suc m
-    go true ih₁ ih₂ p = let h : placeOfSend c n es < m = ih₁ (omega arith) in omega arith
-    go false ih₁ ih₂ p = let h : placeOfSend c (suc n) es < m = ih₂ p in omega arith
+    go : Tested (isOn sent c e) → Early c m n es → Early c m (suc n) es → placeOfSend c (suc n) (e ∷ es) < suc m
+    go (holds t) fewer ih = rw t (omega (arith, fewer (omega (arith, rw t at p))))
+    go (fails t) fewer ih = rw t (omega (arith, ih (rw t at p)))

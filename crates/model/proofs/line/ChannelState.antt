@@ -1,14 +1,15 @@
--- One channel in the logical phase: its invariant over plain values, and what each transition makes of it. t is the tag that all had before the round's
--- logical checkpoints.
+-- One channel in the logical phase: its invariant over plain values, and what each transition makes of it. t is the tag
+-- that all had before the round's logical checkpoints.
 use Prim.Native.Nat.{ℕ}
-use mathlib.Core.Path.{_≡_, refl, sym, ap, subst, transport, _∙_}
+use mathlib.Core.Path.{_≡_, refl, sym, ap, subst, _∙_}
 use mathlib.Core.Bool.{Bool, true, false, not, _&&_}
 use mathlib.Core.List.{List, [], _∷_, _++_, append-assoc, append-nil}
 use native.Mathlib.Omega.{arith}
 use Rattle.model.specs.declared.Entry.{Entry}
 use Rattle.model.specs.declared.Entry.the-variants.{Message, Marker}
-use Rattle.model.specs.Channel.{bodies, markerless, messages}
-use Rattle.model.proofs.laws.Laws.{true-is-not-false}
+use Rattle.model.specs.Channel.{bodies, messages}
+use Rattle.model.proofs.laws.Tests.{true-is-not-false, not-itself}
+use Rattle.model.proofs.laws.ChannelLaws.{messages-snoc}
 
 -- New entries: messages with the new tag, and the marker among them if m.
 pub data New (t : Bool) : Bool → List Entry → Type 0 where
@@ -20,27 +21,6 @@ pub data New (t : Bool) : Bool → List Entry → Type 0 where
 pub data Shape (t : Bool) : List ℕ → Bool → List Entry → Type 0 where
   new : {m : Bool} {es : List Entry} → New t m es → Shape t [] m es
   old : {bs : List ℕ} {m : Bool} {es : List Entry} (b : ℕ) → Shape t bs m es → Shape t (b ∷ bs) m (Message b t ∷ es)
-
-pub bodies-append : (xs ys : List Entry) → bodies (xs ++ ys) ≡ bodies xs ++ bodies ys
-unfolding bodies
-bodies-append [] ys = refl
-bodies-append (Message b t ∷ xs) ys = ap (λ (l : List ℕ). b ∷ l) (bodies-append xs ys)
-bodies-append (Marker ∷ xs) ys = bodies-append xs ys
-
-pub bodies-messages : (t : Bool) (bs : List ℕ) → bodies (messages t bs) ≡ bs
-unfolding bodies messages
-bodies-messages t [] = refl
-bodies-messages t (b ∷ bs) = ap (λ (l : List ℕ). b ∷ l) (bodies-messages t bs)
-
-pub messages-markerless : (t : Bool) (bs : List ℕ) → markerless (messages t bs) ≡ true
-unfolding markerless messages
-messages-markerless t [] = refl
-messages-markerless t (b ∷ bs) = messages-markerless t bs
-
-pub messages-snoc : (t : Bool) (bs : List ℕ) (b : ℕ) → messages t (bs ++ (b ∷ [])) ≡ messages t bs ++ (Message b t ∷ [])
-unfolding messages
-messages-snoc t [] b = refl
-messages-snoc t (x ∷ bs) b = ap (λ (l : List Entry). Message x t ∷ l) (messages-snoc t bs b)
 
 -- only old messages
 pub all-old : (t : Bool) (bs : List ℕ) → Shape t bs false (messages t bs)
@@ -58,11 +38,13 @@ new-marker none = marker none
 new-marker (message x n) = message x (new-marker n)
 
 -- a new message, or the marker, at the end
-pub shape-message : {t m : Bool} {bs : List ℕ} {es : List Entry} (b : ℕ) → Shape t bs m es → Shape t bs m (es ++ (Message b (not t) ∷ []))
+pub shape-message : {t m : Bool} {bs : List ℕ} {es : List Entry} (b : ℕ) → Shape t bs m es
+    → Shape t bs m (es ++ (Message b (not t) ∷ []))
 shape-message b (new n) = new (new-message b n)
 shape-message b (old x s) = old x (shape-message b s)
 
-pub shape-marker : {t : Bool} {bs : List ℕ} {es : List Entry} → Shape t bs false es → Shape t bs true (es ++ (Marker ∷ []))
+pub shape-marker : {t : Bool} {bs : List ℕ} {es : List Entry} → Shape t bs false es
+    → Shape t bs true (es ++ (Marker ∷ []))
 shape-marker (new n) = new (new-marker n)
 shape-marker (old x s) = old x (shape-marker s)
 
@@ -72,9 +54,10 @@ unfolding messages bodies
 all-new none = refl
 all-new {t} (message x n) = ap (λ (l : List Entry). Message x (not t) ∷ l) (all-new n)
 
--- The invariant of one channel. a, r: sender and receiver have their logical checkpoint; s: the marker was sent; k: the channel is closed; es: its
--- entries; log: its channel log; out, in: the bodies sent and received on it before the two ends' checkpoints.
-pub record Logical (t a r s k : Bool) (es : List Entry) (log out in′ : List ℕ) : Type 0 where
+-- The invariant of one channel. a, r: sender and receiver have their logical checkpoint; s: the marker was sent; k: the
+-- channel is closed; es: its entries; log: its channel log; out, in: the bodies sent and received on it before the two
+-- ends' checkpoints.
+pub record Balanced (t a r s k : Bool) (es : List Entry) (log out in′ : List ℕ) : Type 0 where
   pub before : List ℕ
   pub marked : Bool
   pub shape : Shape t before marked es
@@ -83,10 +66,6 @@ pub record Logical (t a r s k : Bool) (es : List Entry) (log out in′ : List �
   pub shut : k ≡ true → (before ≡ []) × (r ≡ true) × (s ≡ true)
   pub unlogged : r ≡ false → log ≡ []
   pub balance : out ≡ in′ ++ (log ++ before)
-
--- the invariant at equal values
-pub recast : {t a a′ r r′ s s′ k k′ : Bool} {es es′ : List Entry} {log log′ out out′ in′ in″ : List ℕ} → a ≡ a′ → r ≡ r′ → s ≡ s′ → k ≡ k′ → es ≡ es′ → log ≡ log′ → out ≡ out′ → in′ ≡ in″ → Logical t a r s k es log out in′ → Logical t a′ r′ s′ k′ es′ log′ out′ in″
-recast {t} pa pr ps pk pe pl po pi l = transport (λ i. Logical t (pa i) (pr i) (ps i) (pk i) (pe i) (pl i) (po i) (pi i)) l
 
 -- The first entry, a message: old, or new with nothing old before it.
 data First (t m : Bool) (b : ℕ) (es : List Entry) : List ℕ → Bool → Type 0 where
@@ -97,25 +76,24 @@ first : {t m u : Bool} {b : ℕ} {bs : List ℕ} {es : List Entry} → Shape t b
 first (new (message b n)) = first-new n
 first (old b s) = first-old s
 
-not-itself : {X : Type 0} (t : Bool) → not t ≡ t → X
-not-itself true e = true-is-not-false e refl
-not-itself false e = true-is-not-false refl e
-
-pub old-first : {t m u : Bool} {b : ℕ} {bs : List ℕ} {es : List Entry} → Shape t bs m (Message b u ∷ es) → u ≡ t → (rest : List ℕ) × (bs ≡ b ∷ rest) × Shape t rest m es
+pub old-first : {t m u : Bool} {b : ℕ} {bs : List ℕ} {es : List Entry} → Shape t bs m (Message b u ∷ es) → u ≡ t
+    → (rest : List ℕ) × (bs ≡ b ∷ rest) × Shape t rest m es
 old-first {t} {m} {u} {b} {bs} {es} s e = go (first s) e
   where
     go : {bs : List ℕ} {u : Bool} → First t m b es bs u → u ≡ t → (rest : List ℕ) × (bs ≡ b ∷ rest) × Shape t rest m es
     go (first-old {bs} s) e = (bs, refl, s)
     go (first-new n) e = not-itself t e
 
-pub new-first : {t m u : Bool} {b : ℕ} {bs : List ℕ} {es : List Entry} → Shape t bs m (Message b u ∷ es) → u ≡ not t → (bs ≡ []) × New t m es
+pub new-first : {t m u : Bool} {b : ℕ} {bs : List ℕ} {es : List Entry} → Shape t bs m (Message b u ∷ es) → u ≡ not t
+    → (bs ≡ []) × New t m es
 new-first {t} {m} {u} {b} {bs} {es} s e = go (first s) e
   where
     go : {bs : List ℕ} {u : Bool} → First t m b es bs u → u ≡ not t → (bs ≡ []) × New t m es
     go (first-old s) e = not-itself t (sym e)
     go (first-new n) e = (refl, n)
 
-pub marker-first : {t m : Bool} {bs : List ℕ} {es : List Entry} → Shape t bs m (Marker ∷ es) → (bs ≡ []) × (m ≡ true) × New t false es
+pub marker-first : {t m : Bool} {bs : List ℕ} {es : List Entry} → Shape t bs m (Marker ∷ es)
+    → (bs ≡ []) × (m ≡ true) × New t false es
 marker-first (new (marker n)) = (refl, refl, n)
 
 and-not : (s k : Bool) → true ≡ (s && not k) → (s ≡ true) × (k ≡ false)
@@ -132,7 +110,8 @@ no-messages {X} {e} {es} t bs z q = let p : e ∷ es ≡ [] = q ∙ ap (messages
 
 module _ {t a r s k : Bool} {es : List Entry} {log out in′ : List ℕ} where
   -- what counts of the checkpoints: a sender without one, a receiver with one
-  pub more-checkpoints : (a′ r′ : Bool) → (a′ ≡ false → a ≡ false) → (r′ ≡ false → r ≡ false) → Logical t a r s k es log out in′ → Logical t a′ r′ s k es log out in′
+  pub more-checkpoints : (a′ r′ : Bool) → (a′ ≡ false → a ≡ false) → (r′ ≡ false → r ≡ false)
+      → Balanced t a r s k es log out in′ → Balanced t a′ r′ s k es log out in′
   more-checkpoints a′ r′ fa fr l =
       record {
         before = l .before;
@@ -150,12 +129,15 @@ module _ {t a r s k : Bool} {es : List Entry} {log out in′ : List ℕ} where
       still false e h = true-is-not-false h (fr e)
 
   -- a message sent before the sender's checkpoint
-  pub send-old : (b : ℕ) → a ≡ false → Logical t a r s k es log out in′ → Logical t a r s k (es ++ (Message b t ∷ [])) log (out ++ (b ∷ [])) in′
+  pub send-old : (b : ℕ) → a ≡ false → Balanced t a r s k es log out in′
+      → Balanced t a r s k (es ++ (Message b t ∷ [])) log (out ++ (b ∷ [])) in′
   send-old b e l =
       record {
         before = l .before ++ (b ∷ []);
         marked = false;
-        shape = subst (λ (x : List Entry). Shape t (l .before ++ (b ∷ [])) false x) one-more (all-old t (l .before ++ (b ∷ [])));
+        shape =
+            subst (λ (x : List Entry). Shape t (l .before ++ (b ∷ [])) false x) one-more
+            (all-old t (l .before ++ (b ∷ [])));
         flag = rw (l .quiet e .0);
         quiet = λ _. (l .quiet e .0, sym one-more);
         shut = λ h. true-is-not-false (l .shut h .2) (l .quiet e .0);
@@ -167,7 +149,8 @@ module _ {t a r s k : Bool} {es : List Entry} {log out in′ : List ℕ} where
       one-more = messages-snoc t (l .before) b ∙ ap (λ (x : List Entry). x ++ (Message b t ∷ [])) (sym (l .quiet e .1))
 
   -- a message sent after it
-  pub send-new : (b : ℕ) → a ≡ true → Logical t a r s k es log out in′ → Logical t a r s k (es ++ (Message b (not t) ∷ [])) log out in′
+  pub send-new : (b : ℕ) → a ≡ true → Balanced t a r s k es log out in′
+      → Balanced t a r s k (es ++ (Message b (not t) ∷ [])) log out in′
   send-new b e l =
       record {
         before = l .before;
@@ -181,7 +164,8 @@ module _ {t a r s k : Bool} {es : List Entry} {log out in′ : List ℕ} where
       }
 
   -- the marker
-  pub send-marker : a ≡ true → s ≡ false → Logical t a r s k es log out in′ → Logical t a r true k (es ++ (Marker ∷ [])) log out in′
+  pub send-marker : a ≡ true → s ≡ false → Balanced t a r s k es log out in′
+      → Balanced t a r true k (es ++ (Marker ∷ [])) log out in′
   send-marker e z l =
       record {
         before = l .before;
@@ -203,11 +187,11 @@ module _ {t a r s k : Bool} {es : List Entry} {log out in′ : List ℕ} where
 
 module _ {t a r s k : Bool} {es : List Entry} {log out in′ : List ℕ} where
   -- a marker that is first was sent, and its channel isn't closed yet
-  pub open-at-marker : Logical t a r s k (Marker ∷ es) log out in′ → (s ≡ true) × (k ≡ false)
+  pub open-at-marker : Balanced t a r s k (Marker ∷ es) log out in′ → (s ≡ true) × (k ≡ false)
   open-at-marker l = and-not s k (sym (marker-first (l .shape) .1) ∙ l .flag)
 
   -- the marker received: the channel is closed
-  pub receive-marker : Logical t a r s k (Marker ∷ es) log out in′ → Logical t a true s true es log out in′
+  pub receive-marker : Balanced t a r s k (Marker ∷ es) log out in′ → Balanced t a true s true es log out in′
   receive-marker l =
       let (nothing, _, rest) = marker-first (l .shape) in
       let open′ = open-at-marker l in
@@ -222,7 +206,8 @@ module _ {t a r s k : Bool} {es : List Entry} {log out in′ : List ℕ} where
         balance = l .balance ∙ rw nothing;
       }
 
-module _ {t a r s k u : Bool} {b : ℕ} {es : List Entry} {log out in′ : List ℕ} (l : Logical t a r s k (Message b u ∷ es) log out in′) where
+module _ {t a r s k u : Bool} {b : ℕ} {es : List Entry} {log out in′ : List ℕ}
+    (l : Balanced t a r s k (Message b u ∷ es) log out in′) where
   open-while-old : u ≡ t → k ≡ true → ⊥
   open-while-old e h =
       let (rest, is, shape) = old-first (l .shape) e in
@@ -230,7 +215,8 @@ module _ {t a r s k u : Bool} {b : ℕ} {es : List Entry} {log out in′ : List 
       let z : _≡_ {A = ℕ} 0 1 = cc in omega arith
 
   -- an old message: it is in the receiver's part before the checkpoint, or in the channel log
-  receive-old : (log′ in″ : List ℕ) → u ≡ t → (r ≡ false → log′ ≡ []) → ((rest : List ℕ) → in′ ++ (log ++ (b ∷ rest)) ≡ in″ ++ (log′ ++ rest)) → Logical t a r s k es log′ out in″
+  receive-old : (log′ in″ : List ℕ) → u ≡ t → (r ≡ false → log′ ≡ [])
+      → ((rest : List ℕ) → in′ ++ (log ++ (b ∷ rest)) ≡ in″ ++ (log′ ++ rest)) → Balanced t a r s k es log′ out in″
   unfolding messages
   receive-old log′ in″ e unlogged balance =
       let (rest, is, shape) = old-first (l .shape) e in
@@ -245,17 +231,22 @@ module _ {t a r s k u : Bool} {b : ℕ} {es : List Entry} {log out in′ : List 
         balance = l .balance ∙ ap (λ (x : List ℕ). in′ ++ (log ++ x)) is ∙ balance rest;
       }
     where
-      cons-rest : (rest : List ℕ) → l .before ≡ b ∷ rest → Message b u ∷ es ≡ messages t (l .before) → es ≡ messages t rest
+      cons-rest : (rest : List ℕ) → l .before ≡ b ∷ rest → Message b u ∷ es ≡ messages t (l .before)
+          → es ≡ messages t rest
       cons-rest rest is q = let p : Message b u ∷ es ≡ Message b t ∷ messages t rest = q ∙ ap (messages t) is in cc
 
-  pub receive-old-before : u ≡ t → r ≡ false → Logical t a r s k es log out (in′ ++ (b ∷ []))
-  receive-old-before e z = receive-old log (in′ ++ (b ∷ [])) e (l .unlogged) (λ rest. rw (l .unlogged z) (sym (append-assoc in′ (b ∷ []) rest)))
+  pub receive-old-before : u ≡ t → r ≡ false → Balanced t a r s k es log out (in′ ++ (b ∷ []))
+  receive-old-before e z =
+      receive-old log (in′ ++ (b ∷ [])) e (l .unlogged)
+      (λ rest. rw (l .unlogged z) (sym (append-assoc in′ (b ∷ []) rest)))
 
-  pub receive-old-logged : u ≡ t → r ≡ true → Logical t a r s k es (log ++ (b ∷ [])) out in′
-  receive-old-logged e z = receive-old (log ++ (b ∷ [])) in′ e (λ h. true-is-not-false z h) (λ rest. ap (λ (x : List ℕ). in′ ++ x) (sym (append-assoc log (b ∷ []) rest)))
+  pub receive-old-logged : u ≡ t → r ≡ true → Balanced t a r s k es (log ++ (b ∷ [])) out in′
+  receive-old-logged e z =
+      receive-old (log ++ (b ∷ [])) in′ e (λ h. true-is-not-false z h)
+      (λ rest. ap (λ (x : List ℕ). in′ ++ x) (sym (append-assoc log (b ∷ []) rest)))
 
   -- a new message: the receiver has its checkpoint by then
-  pub receive-new : u ≡ not t → Logical t a true s k es log out in′
+  pub receive-new : u ≡ not t → Balanced t a true s k es log out in′
   receive-new e =
       let (nothing, rest) = new-first (l .shape) e in
       record {
@@ -278,8 +269,10 @@ module _ {t a r s k u : Bool} {b : ℕ} {es : List Entry} {log out in′ : List 
       go false h = no-messages t (l .before) (new-first (l .shape) e .0) (l .quiet h .1)
 
 -- The channel at commit: closed, so nothing old is left, and no marker.
-pub closed-channel : {t a r s k : Bool} {es : List Entry} {log out in′ : List ℕ} → k ≡ true → Logical t a r s k es log out in′ → (es ≡ messages (not t) (bodies es)) × (out ≡ in′ ++ log)
-closed-channel {t} {a} {r} {s} {k} {es} {log} {out} {in′} e l = (all-new (none-old (l .shape) (l .shut e .0) unmarked), l .balance ∙ rw (l .shut e .0, append-nil))
+pub closed-channel : {t a r s k : Bool} {es : List Entry} {log out in′ : List ℕ} → k ≡ true
+    → Balanced t a r s k es log out in′ → (es ≡ messages (not t) (bodies es)) × (out ≡ in′ ++ log)
+closed-channel {t} {a} {r} {s} {k} {es} {log} {out} {in′} e l =
+    (all-new (none-old (l .shape) (l .shut e .0) unmarked), l .balance ∙ rw (l .shut e .0, append-nil))
   where
     unmarked : l .marked ≡ false
     unmarked = l .flag ∙ rw (e, l .shut e .2)

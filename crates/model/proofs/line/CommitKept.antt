@@ -1,30 +1,33 @@
--- A commit keeps the invariant: the marks of the round are the new finished line, and all have the new tag. Without power nothing is written.
+-- A commit keeps the invariant: the marks of the round are the new finished line, and all have the new tag. Without
+-- power nothing is written.
 use Prim.Native.Nat.{ℕ, zero, suc, _+_, _<_, _≤_}
-use mathlib.Core.Path.{_≡_, refl, sym, ap, subst, _∙_}
+use mathlib.Core.Path.{_≡_, refl, sym, ap, _∙_}
 use mathlib.Core.Bool.{Bool, true, not}
 use mathlib.Core.List.{List, _++_}
-use mathlib.Core.Option.{Option, none}
+use mathlib.Core.Option.{Option}
 use lib.ListN.{take}
 use native.Mathlib.Omega.{arith}
-use Rattle.model.specs.declared.Phase.{Phase}
-use Rattle.model.specs.declared.Phase.the-variants as phase
+use Rattle.model.specs.declared.Phase.the-variants.{Logical}
 use Rattle.model.specs.declared.Step.the-variants.{Commit}
-use Rattle.model.specs.Notation.{allBelow}
-use Rattle.model.specs.Topology.{sender, receiver}
-use Rattle.model.specs.Layout.{cell, lineCell, places, logged, channelLog}
+use Rattle.model.specs.Layout.{messageLog, channelLog}
 use Rattle.model.specs.State.{GlobalState}
 use Rattle.model.specs.Change.{endRound, withProgress, withRound}
 use Rattle.model.specs.Outcome.{accepted}
 use Rattle.model.specs.Write.{writeAll, commitWrites}
-use Rattle.model.specs.Step.{effect, nextLine, isLogical, mayCommit}
-use Rattle.model.specs.Run.{countCommit, isCommit}
-use Rattle.model.specs.History.{Event, History, sent, received, bodiesOn, markOr, onCommit, onStep, onAccepted}
-use Rattle.model.proofs.laws.Laws.{all-three, true-is-not-false, all-at}
+use Rattle.model.specs.Step.{effect, nextLine}
+use Rattle.model.specs.History.{Event, Direction, History, sent, received, bodiesOn, markOr, onCommit, onStep}
+use Rattle.model.specs.History.{onAccepted}
+use Rattle.model.proofs.laws.Tests.{true-is-not-false}
+use Rattle.model.proofs.laws.Passing.{MayCommit}
+use Rattle.model.proofs.laws.SoundLaws.{Fits}
 use Rattle.model.proofs.laws.HistoryLaws.{wordOf, before, Marked, unmarked, marked}
+use Rattle.model.proofs.store.Sizes.{sized-after}
+use Rattle.model.proofs.store.Slots.{committed, committed-log, committed-process}
 use Rattle.model.proofs.line.ChannelState.{closed-channel}
-use Rattle.model.proofs.store.Store.{sized-after, committed, commit-slots}
-use Rattle.model.proofs.line.Kept.{round-written}
-use Rattle.model.proofs.line.Invariant.{tagged, Finished, Uniform, Marking, InRound, idle, physical, logical, EndsPlanned, Fits, Holds, Keeps, KeepsCut}
+use Rattle.model.proofs.line.Values.{slotOf, slotBy, heldOf, heldBy, bookOf, seenOf, channelAt}
+use Rattle.model.proofs.line.Invariant.{tagged, EndsPlanned, Inv, Keeps, KeepsBy, KeepsLostBy}
+use Rattle.model.proofs.line.Frames.{slot-same, held-same, slot-by, held-by}
+use Rattle.model.proofs.line.Phases.{is-logical, process-in, channel-in}
 
 -- a mark of the round, in a line
 mark-within : {n : ℕ} {b : Bool} {m : Option ℕ} (place : ℕ) → Marked n b m → b ≡ true → markOr m place ≤ n
@@ -32,79 +35,85 @@ unfolding markOr
 mark-within place unmarked e = true-is-not-false e refl
 mark-within place (marked h) e = h
 
-mark-line : {n : ℕ} {b : Bool} {m : Option ℕ} (place : ℕ) (es : List Event) → Marked n b m → b ≡ true → before m es ≡ take (markOr m place) es
+mark-line : {n : ℕ} {b : Bool} {m : Option ℕ} (place : ℕ) (es : List Event) → Marked n b m → b ≡ true
+    → before m es ≡ take (markOr m place) es
 unfolding markOr before
 mark-line place es unmarked e = true-is-not-false e refl
 mark-line place es (marked h) e = refl
 
-module _ (s : GlobalState) (st : List ℕ) (h : History) (ends : EndsPlanned (s .topology)) (may : mayCommit s ≡ true) (fits : Fits s) where
-  now : (isLogical (s .round .phase) ≡ true) × (allBelow (s .topology .processes) (s .progress .checkpointed) ≡ true) × (allBelow (s .topology .channels) (s .progress .closed) ≡ true)
-  unfolding mayCommit
-  now = all-three (isLogical (s .round .phase)) (allBelow (s .topology .processes) (s .progress .checkpointed)) (allBelow (s .topology .channels) (s .progress .closed)) may
+module _ (s : GlobalState) (st : List ℕ) (h : History) (ends : EndsPlanned (s .topology)) (may : MayCommit s)
+    (fits : Fits (s .topology) (s .counts)) (i : Inv s st h) where
+  abbrev n : ℕ
+  n = s .round .line + 1
 
-  checkpointed : (p : ℕ) → p < s .topology .processes → s .progress .checkpointed p ≡ true
-  checkpointed = all-at (s .topology .processes) (s .progress .checkpointed) (now .1)
+  abbrev after : List ℕ
+  after = writeAll st (commitWrites n)
 
-  closed : (c : ℕ) → c < s .topology .channels → s .progress .closed c ≡ true
-  closed = all-at (s .topology .channels) (s .progress .closed) (now .2)
+  phase : s .round .phase ≡ Logical
+  phase = is-logical (s .round .phase) (may .phase)
 
-  -- the store afterwards
-  after : List ℕ
-  after = writeAll st (commitWrites (nextLine s))
+  -- the pending slot, as it now stands for itself
+  slot-committed : (p : ℕ) → p < s .topology .processes → slotOf after n p ≡ slotBy st n (s .counts .messages p) p
+  unfolding slotBy
+  slot-committed p l =
+      let same = committed-process (s .topology) st (i .sized) n n p l _ (fits (messageLog p) l) in
+      slot-by after n p (s .counts .messages p) (process-in i phase p l .round .counted ∙ sym (same .log .count))
+      ∙ slot-same n p (s .counts .messages p) same
 
-  line : ℕ → ℕ
-  line p = markOr (h .mark p) (h .line p)
+  held-committed : (c : ℕ) → c < s .topology .channels → heldOf after n c ≡ heldBy st n (s .counts .channels c) c
+  unfolding heldBy
+  held-committed c l =
+      let same = committed-log (s .topology) st (i .sized) n n (channelLog c) l _ (fits (channelLog c) l) in
+      held-by after n c (s .counts .channels c) (channel-in i phase c l .round .counted ∙ sym (same .count))
+      ∙ held-same n c (s .counts .channels c) same
 
-  module _ {t : Bool} {n : ℕ} (m : Marking (s .topology) t after n s h) where
-    at-line : (p : ℕ) → p < s .topology .processes → before (h .mark p) (h .events p) ≡ take (line p) (h .events p)
-    unfolding line
-    at-line p l = mark-line (h .line p) (h .events p) (m .marks p l) (checkpointed p l)
+  -- what stood before the marks stands up to the line
+  at-line : (p : ℕ) → p < s .topology .processes
+      → before (bookOf h p .mark) (bookOf h p .events) ≡ take (bookOf (onCommit h) p .place) (bookOf h p .events)
+  unfolding bookOf onCommit
+  at-line p l = mark-line (h .line p) (h .events p) (process-in i phase p l .round .mark) (may .processes p l)
 
-    commit-finished : cell after lineCell ≡ n → Finished (s .topology) after n line (h .events)
-    unfolding line
-    commit-finished stored =
-        record {
-          stored = stored;
-          within = λ p l. mark-within (h .line p) (m .marks p l) (checkpointed p l);
-          words = λ p l. m .words p l ∙ ap wordOf (at-line p l);
-          channels = λ c l.
-              ap (bodiesOn sent c) (sym (at-line (sender (s .topology) c) (ends c l .0))) ∙ closed-channel (closed c l) (m .channels c l) .1
-              ∙ ap (λ (x : List Event). bodiesOn received c x ++ logged after n (channelLog c)) (at-line (receiver (s .topology) c) (ends c l .1));
-          counts = λ log l. subst (λ (x : ℕ). x ≤ places log) (m .counts log l) (fits log l);
-        }
+  seen-line : (d : Direction) (c p : ℕ) → p < s .topology .processes
+      → seenOf d c (bookOf h p) .mark ≡ seenOf d c (bookOf (onCommit h) p) .line
+  unfolding seenOf bookOf onCommit
+  seen-line d c p l = ap (bodiesOn d c) (at-line p l)
 
-    commit-uniform : Uniform (s .topology) (not t) (s .tag) (s .channel) (λ p. none)
-    unfolding tagged
-    commit-uniform =
-        record {
-          tags = λ p l. m .tags p l ∙ ap (tagged t) (checkpointed p l);
-          plain = λ c l. closed-channel (closed c l) (m .channels c l) .0;
-          marks = λ p l. refl;
-        }
-
-  commit-round : {ph : Phase} → isLogical ph ≡ true → cell after lineCell ≡ s .round .line + 1 → InRound (s .topology) after s h ph
-      → Finished (s .topology) after (s .round .line + 1) line (h .events) × InRound (s .topology) after (endRound (nextLine s) s) (onCommit h) phase.Idle
-  unfolding isLogical endRound withProgress withRound onCommit
-  commit-round e stored (idle t u) = true-is-not-false e refl
-  commit-round e stored (physical t u c) = true-is-not-false e refl
-  commit-round e stored (logical t m) = (commit-finished m stored, idle (not t) (commit-uniform m))
-
-  pub commit-kept : Holds s st h → Keeps s st h Commit
-  unfolding effect nextLine endRound withProgress withRound onStep onAccepted accepted onCommit countCommit isCommit after line
-  commit-kept i =
-      let slots = commit-slots (s .topology) st (i .sized) (nextLine s) (nextLine s) in
-      let marked-round = round-written (s .topology) s h fits slots (i .round) in
-      let (finished, round) = commit-round (now .0) (committed (s .topology) st (i .sized) (nextLine s)) marked-round in
+  lasts : KeepsBy s st h Commit (effect s Commit)
+  unfolding effect nextLine endRound withProgress withRound onStep onAccepted accepted bookOf seenOf onCommit tagged
+  lasts =
       record {
-        topology = refl;
-        line = refl;
-        sized = sized-after (i .sized) (commitWrites (nextLine s));
-        flow = i .flow;
-        finished = finished;
-        round = round;
+        sized = sized-after (i .sized) (commitWrites n);
+        stored = committed (s .topology) st (i .sized) n;
+        tag = not (i .tag);
+        processes = λ p l.
+            let v = process-in i phase p l in
+            rw (slot-committed p l)
+            (record {
+              now = v .now;
+              within = mark-within (h .line p) (v .round .mark) (may .processes p l);
+              finished = v .round .saved ∙ ap wordOf (at-line p l);
+              fits = rw (← v .round .counted) (fits (messageLog p) l);
+              round = record { tag = v .round .tag ∙ ap (tagged (i .tag)) (may .processes p l); mark = refl };
+            });
+        channels = λ c l.
+            let v = channel-in i phase c l in
+            let (plain, balance) = closed-channel (may .channels c l) (v .round .balanced) in
+            rw (held-committed c l)
+            (record {
+              now = v .now;
+              finished =
+                  sym (seen-line sent c _ (ends c l .0)) ∙ balance
+                  ∙ ap (λ (x : List ℕ). x ++ channelAt s st h c .pending .bodies)
+                  (seen-line received c _ (ends c l .1));
+              fits = rw (← v .round .counted) (fits (channelLog c) l);
+              round = plain;
+            });
       }
 
-  pub commit-kept-cut : Holds s st h → KeepsCut s st h Commit
+  lost : KeepsLostBy s st h (effect s Commit)
   unfolding effect commitWrites writeAll
-  commit-kept-cut i zero l = i
-  commit-kept-cut i (suc b) l = absurd (omega arith)
+  lost zero l = i
+  lost (suc b) l = absurd (omega arith)
+
+  pub commit-kept : Keeps s st h Commit
+  commit-kept = record { lasts = lasts; lost = lost }

@@ -1,81 +1,85 @@
 -- A marker sent keeps the invariant: it joins the new entries of its channel, and no body moves.
-use Prim.Native.Nat.{ℕ, _+_, _<_}
-use mathlib.Core.Path.{_≡_, refl, sym, ap, _∙_}
-use mathlib.Core.Bool.{Bool, true, not}
+use Prim.Native.Nat.{ℕ, _<_}
+use mathlib.Core.Path.{_≡_, sym, ap, subst, _∙_}
+use mathlib.Core.Bool.{Bool, true, false}
 use mathlib.Core.List.{List, [], _∷_, _++_, append-nil}
-use borrow.Author.Tests.{not-true}
 use Rattle.model.specs.declared.Phase.{Phase}
+use Rattle.model.specs.declared.Phase.the-variants.{Logical}
 use Rattle.model.specs.declared.Entry.{Entry}
 use Rattle.model.specs.declared.Entry.the-variants.{Marker}
 use Rattle.model.specs.declared.Step.the-variants.{SendMarker}
-use Rattle.model.specs.Notation.{upd}
-use Rattle.model.specs.Topology.{sender}
 use Rattle.model.specs.Channel.{bodies}
 use Rattle.model.specs.State.{GlobalState}
-use Rattle.model.specs.Change.{recordSent, setEntries, withChannel, withProgress}
+use Rattle.model.specs.Change.{recordSent, setEntries, withChannel, withProgress, withSent}
 use Rattle.model.specs.Outcome.{accepted}
 use Rattle.model.specs.Write.{writeAll}
-use Rattle.model.specs.Step.{effect, quietly, isLogical, maySendMarker}
-use Rattle.model.specs.Run.{countCommit, isCommit}
+use Rattle.model.specs.Step.{effect, quietly}
 use Rattle.model.specs.History.{History, onStep, onAccepted}
-use Rattle.model.proofs.laws.Laws.{all-three, true-is-not-false, by-index, upd-same, upd-other}
-use Rattle.model.proofs.line.ChannelState.{recast, bodies-append, send-marker}
-use Rattle.model.proofs.line.Invariant.{ChannelAt, channelLogs, Flow, Marking, InRound, idle, physical, logical, Holds, Keeps}
+use Rattle.model.proofs.laws.Functions.{by-index, upd-same, upd-other}
+use Rattle.model.proofs.laws.ChannelLaws.{bodies-append}
+use Rattle.model.proofs.laws.Passing.{MaySendMarker}
+use Rattle.model.proofs.line.Values.{Channel, channelAt}
+use Rattle.model.proofs.line.ChannelState.{send-marker}
+use Rattle.model.proofs.line.Invariant.{ChannelHolds, Inv, KeepsBy}
+use Rattle.model.proofs.line.Phases.{is-logical, channel-in}
 
-module _ (s : GlobalState) (st : List ℕ) (h : History) (c : ℕ) (may : maySendMarker s c ≡ true) where
-  -- what is on the channel afterwards, and the state
-  longer : List Entry
+-- a channel with the marker at its end
+abbrev marked : Channel → Channel
+marked v =
+    record {
+      entries = v .entries ++ (Marker ∷ []);
+      sent = true;
+      closed = v .closed;
+      sender = v .sender;
+      receiver = v .receiver;
+      count = v .count;
+      out = v .out;
+      taken = v .taken;
+      finished = v .finished;
+      pending = v .pending;
+    }
+
+channel-marked : {t : Bool} {v : Channel} → v .sender ≡ true → v .sent ≡ false → ChannelHolds t Logical v
+    → ChannelHolds t Logical (marked v)
+unfolding bodies
+channel-marked {v = v} a z i =
+    record {
+      now =
+          i .now
+          ∙ ap (λ (l : List ℕ). v .taken .all ++ l) (sym (bodies-append (v .entries) (Marker ∷ []) ∙ append-nil _));
+      finished = i .finished;
+      fits = i .fits;
+      round = record { balanced = send-marker a z (i .round .balanced); counted = i .round .counted };
+    }
+
+module _ (s : GlobalState) (st : List ℕ) (h : History) (c : ℕ) (may : MaySendMarker s c) (i : Inv s st h) where
+  abbrev longer : List Entry
   longer = s .channel c ++ (Marker ∷ [])
 
-  marked-state : GlobalState
-  marked-state = recordSent c (setEntries c longer s)
+  abbrev after : GlobalState
+  after = recordSent c (setEntries c longer s)
 
-  now : (isLogical (s .round .phase) ≡ true) × (s .progress .checkpointed (sender (s .topology) c) ≡ true) × (not (s .progress .sent c) ≡ true)
-  unfolding maySendMarker
-  now = all-three (isLogical (s .round .phase)) (s .progress .checkpointed (sender (s .topology) c)) (not (s .progress .sent c)) may
+  phase : s .round .phase ≡ Logical
+  phase = is-logical (s .round .phase) (may .phase)
 
-  same-bodies : (d : ℕ) → bodies (upd (s .channel) c longer d) ≡ bodies (s .channel d)
-  unfolding longer bodies
-  same-bodies =
-      by-index (λ d. bodies (upd (s .channel) c longer d) ≡ bodies (s .channel d)) c
-      (ap bodies (upd-same (s .channel) c longer) ∙ bodies-append (s .channel c) (Marker ∷ []) ∙ append-nil _)
-      (λ d o. ap bodies (upd-other (s .channel) c d longer o))
+  channels : (d : ℕ) → d < s .topology .channels → ChannelHolds (i .tag) Logical (channelAt after st h d)
+  unfolding recordSent setEntries withChannel withProgress withSent
+  channels =
+      by-index (λ d. d < s .topology .channels → ChannelHolds (i .tag) Logical (channelAt after st h d)) c
+      (λ k.
+      rw (upd-same (s .channel) c longer, upd-same (s .progress .sent) c true)
+      (channel-marked (may .sender) (may .unsent) (channel-in i phase c k)))
+      (λ d n k.
+      rw (upd-other (s .channel) c d longer n, upd-other (s .progress .sent) c d true n) (channel-in i phase d k))
 
-  marker-flow : Flow (s .topology) (s .word) (s .channel) (h .events) → Flow (s .topology) (s .word) (upd (s .channel) c longer) (h .events)
-  marker-flow f = record { words = f .words; channels = λ d k. rw (same-bodies d) (f .channels d k) }
-
-  marker-marking : (t : Bool) (n : ℕ) → Marking (s .topology) t st n s h → Marking (s .topology) t st n marked-state h
-  unfolding marked-state recordSent setEntries withChannel withProgress longer
-  marker-marking t n m =
+  pub marker-kept : KeepsBy s st h (SendMarker c) (effect s (SendMarker c))
+  unfolding effect quietly recordSent setEntries withChannel withProgress withSent writeAll onStep onAccepted accepted
+  marker-kept =
       record {
-        tags = m .tags;
-        marks = m .marks;
-        words = m .words;
-        channels =
-            by-index (λ d. d < s .topology .channels → ChannelAt (s .topology) t (marked-state .progress) (marked-state .channel) (channelLogs st n) (h .mark) (h .events) d) c
-            (λ k.
-            recast refl refl (sym (upd-same (s .progress .sent) c true)) refl (sym (upd-same (s .channel) c longer)) refl refl refl
-            (send-marker (now .1) (not-true _ (now .2)) (m .channels c k)))
-            (λ d o k.
-            recast refl refl (sym (upd-other (s .progress .sent) c d true o)) refl (sym (upd-other (s .channel) c d longer o)) refl refl refl
-            (m .channels d k));
-        counts = m .counts;
-      }
-
-  marker-round : {ph : Phase} → isLogical ph ≡ true → InRound (s .topology) st s h ph → InRound (s .topology) st marked-state h ph
-  unfolding isLogical marked-state recordSent setEntries withChannel withProgress
-  marker-round e (idle t u) = true-is-not-false e refl
-  marker-round e (physical t u c) = true-is-not-false e refl
-  marker-round e (logical t m) = logical t (marker-marking t (s .round .line + 1) m)
-
-  pub marker-kept : Holds s st h → Keeps s st h (SendMarker c)
-  unfolding effect quietly recordSent setEntries withChannel withProgress writeAll onStep onAccepted accepted countCommit isCommit marked-state longer
-  marker-kept i =
-      record {
-        topology = refl;
-        line = refl;
         sized = i .sized;
-        flow = marker-flow (i .flow);
-        finished = i .finished;
-        round = marker-round (now .0) (i .round);
+        stored = i .stored;
+        tag = i .tag;
+        processes = i .processes;
+        channels =
+            λ d k. subst (λ (ph : Phase). ChannelHolds (i .tag) ph (channelAt after st h d)) (sym phase) (channels d k);
       }

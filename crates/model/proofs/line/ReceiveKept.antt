@@ -1,10 +1,9 @@
--- A receive keeps the invariant, whatever the phase and the entry.
-use Prim.Native.Nat.{ℕ, _+_, _<_}
-use mathlib.Core.Path.{_≡_, refl, sym, ap, ap₂, subst, _∙_}
-use mathlib.Core.Bool.{Bool, true, false, not, cond, Bool·beq, Bool·not-not}
-use mathlib.Core.List.{List, [], _∷_, _++_}
-use mathlib.Core.Option.{Option, none, some}
-use lib.ListN.{length}
+-- A receive keeps the invariant, whatever the phase and the entry: by the phase, whether the receiver has its logical
+-- checkpoint, and whether the message is old (it has the tag from before the round's logical checkpoints) or new.
+use Prim.Native.Nat.{ℕ, _<_}
+use mathlib.Core.Path.{_≡_, refl, sym, ap, subst, _∙_}
+use mathlib.Core.Bool.{Bool, true, false, not, Bool·beq, Bool·not-not}
+use mathlib.Core.List.{List, [], _∷_}
 use lib.Dec.{ltb}
 use borrow.Author.Tests.{leb-false, ltb-true, ltb-false}
 use native.Mathlib.Omega.{arith}
@@ -13,233 +12,303 @@ use Rattle.model.specs.declared.Phase.the-variants.{Idle, Physical, Logi
 use Rattle.model.specs.declared.Entry.{Entry}
 use Rattle.model.specs.declared.Entry.the-variants.{Message, Marker}
 use Rattle.model.specs.declared.Step.the-variants.{Receive}
-use Rattle.model.specs.declared.Outcome.the-variants.{ReceivedMarker}
-use Rattle.model.specs.Notation.{upd}
 use Rattle.model.specs.Topology.{sender, receiver}
-use Rattle.model.specs.Channel.{bodies, messages}
-use Rattle.model.specs.Layout.{Log, messageLog, channelLog, places}
-use Rattle.model.specs.State.{GlobalState}
-use Rattle.model.specs.Change.{setEntries, withChannel, enterWord, withWord, raiseCount, withCounts, countOf, checkpoint, withTag, withProgress, close}
-use Rattle.model.specs.Receive.{checkpointsFirst, differs, closes, logNeeded}
-use Rattle.model.specs.Write.{writeAll}
+use Rattle.model.specs.Channel.{bodies, markerless, messages, noEntry}
+use Rattle.model.specs.State.{GlobalState, raisedAll}
+use Rattle.model.specs.Change.{setEntries, withChannel, enterBody, withWord, withCounts, logicalCheckpoint}
+use Rattle.model.specs.Change.{withTag}
+use Rattle.model.specs.Change.{withProgress, withLogical, withClosed, close}
 use Rattle.model.specs.Outcome.{accepted}
-use Rattle.model.specs.Step.{effect, receive, removeFirst, logFor, logOfFirst, isFull, nextLine, quietly, noEntry}
-use Rattle.model.specs.Run.{countCommit, isCommit}
-use Rattle.model.specs.History.{History, received, bodiesOn, sent, onStep, onAccepted, onReceive, onMessage, addEvent, markNow, markUnmarked, sentAfterMark, isAfter}
-use Rattle.model.proofs.laws.Laws.{by-index, upd-same, upd-other, true-is-not-false, Tested, holds, fails, test}
-use Rattle.model.proofs.laws.HistoryLaws.{Marked, unmarked, marked}
-use Rattle.model.proofs.line.ChannelState.{recast, new-sender}
-use Rattle.model.proofs.line.Kept.{no-mark}
-use Rattle.model.proofs.line.Invariant.{tagged, Flow, Uniform, Copied, Marking, InRound, idle, physical, logical, Inv, EndsPlanned, Fits, Holds, Keeps, KeepsCut}
-use Rattle.model.proofs.line.ReceiveFlow.{first-checkpoint, entered, entered-logged, receive-uniform}
-use Rattle.model.proofs.line.ReceiveHistory.{on-early, on-late, on-marked, old-is-early, new-is-late}
-use Rattle.model.proofs.line.ReceivePlain.{receive-copied, receive-copied-logged}
-use Rattle.model.proofs.line.ReceiveLogical.{EntriesAt, marking-marker, marking-new, marking-channel, marking-message}
-use Rattle.model.proofs.line.CheckpointKept.{marking-checkpoint}
-use Rattle.model.proofs.line.LogKept.{logStore}
-use Rattle.model.proofs.line.ReceiveResult.{Both, heard, no-cut, plainly, checkpointing, logging}
+use Rattle.model.specs.Write.{writeAll, logsWrites}
+use Rattle.model.specs.Receive.{Reaction, logsOnly, reactionTo, anyFull}
+use Rattle.model.specs.Step.{effect, receive, reaction, firstReaction, react, receivedOutcome}
+use Rattle.model.specs.History.{History, markNow, markUnmarked, addEvent, onStep, onAccepted, onReceive}
+use Rattle.model.specs.History.{onMessage}
+use Rattle.model.proofs.laws.Tests.{true-is-not-false, or-left, Tested, holds, fails, test, beq-same}
+use Rattle.model.proofs.laws.Tests.{beq-other}
+use Rattle.model.proofs.laws.Functions.{by-index, upd-same, upd-other}
+use Rattle.model.proofs.laws.ChannelLaws.{messages-markerless}
+use Rattle.model.proofs.laws.SoundLaws.{Fits}
+use Rattle.model.proofs.laws.HistoryLaws.{receivedOn}
+use Rattle.model.proofs.line.ChannelState.{receive-marker, new-sender}
+use Rattle.model.proofs.line.Values.{Channel, processAt, channelAt, bookOf, seenOf}
+use Rattle.model.proofs.line.Invariant.{tagged, ChannelHolds, EndsPlanned, Inv, Keeps}
+use Rattle.model.proofs.line.Books.{no-mark}
+use Rattle.model.proofs.line.ProcessState.{received-idle, received-waiting, received-saved, received-before}
+use Rattle.model.proofs.line.ProcessState.{received-after}
+use Rattle.model.proofs.line.ChannelKept.{taken-idle, taken-physical, taken-before, taken-new, taken-logged}
+use Rattle.model.proofs.line.Phases.{process-in, channel-in}
+use Rattle.model.proofs.line.ReceiveHistory.{on-early, on-late, stays-marked, on-marked, on-unmarked}
+use Rattle.model.proofs.line.ReceiveHistory.{old-is-early}
+use Rattle.model.proofs.line.ReceiveHistory.{new-is-late}
+use Rattle.model.proofs.line.LogicalKept.{logical-kept, logical-tag}
+use Rattle.model.proofs.line.MessageKept.{receiveBy, Both, unlogged, message-unlogged, message-logged}
+use Rattle.model.proofs.line.MessageKept.{channel-logged}
 
--- equal tags, and different ones
-equal-tags : (a b : Bool) → Bool·beq a b ≡ true → a ≡ b
-equal-tags true true e = refl
-equal-tags true false e = true-is-not-false e refl
-equal-tags false true e = true-is-not-false e refl
-equal-tags false false e = refl
+-- plain entries have no marker
+no-marker : {X : Type 0} (t : Bool) (bs : List ℕ) (es : List Entry) → Marker ∷ es ≡ messages t bs → X
+unfolding markerless
+no-marker t bs es e = true-is-not-false (messages-markerless t bs) (ap markerless (sym e))
 
-other-tags : (a b : Bool) → Bool·beq a b ≡ false → a ≡ not b
-other-tags true true e = true-is-not-false refl e
-other-tags true false e = refl
-other-tags false true e = refl
-other-tags false false e = true-is-not-false refl e
+-- a channel with its marker received
+abbrev shut : List Entry → Channel → Channel
+shut es v =
+    record {
+      entries = es;
+      sent = v .sent;
+      closed = true;
+      sender = v .sender;
+      receiver = v .receiver;
+      count = v .count;
+      out = v .out;
+      taken = v .taken;
+      finished = v .finished;
+      pending = v .pending;
+    }
 
-module _ (s : GlobalState) (st : List ℕ) (h : History) (c : ℕ) (i : Holds s st h) (l : c < s .topology .channels) (ends : EndsPlanned (s .topology)) (fits : Fits s) where
-  module _ (b : ℕ) (u : Bool) (es : List Entry) (is : s .channel c ≡ Message b u ∷ es) where
-    -- outside the logical phase no process has a mark, so the message is no later than one
-    unmarked-sender : h .mark (sender (s .topology) c) ≡ none → sentAfterMark (s .topology) c h ≡ false
-    unfolding sentAfterMark isAfter
-    unmarked-sender e = rw e
+channel-shut : {t : Bool} {v : Channel} (es : List Entry) → v .entries ≡ Marker ∷ es → v .receiver ≡ true
+    → ChannelHolds t Logical v → ChannelHolds t Logical (shut es v)
+unfolding bodies
+channel-shut {v = v} es first r i =
+    record {
+      now = rw first at (i .now);
+      finished = i .finished;
+      fits = i .fits;
+      round =
+          record { balanced = rw r (receive-marker (rw first at (i .round .balanced))); counted = i .round .counted };
+    }
 
-    idle-message : (t : Bool) → s .round .phase ≡ Idle → Uniform (s .topology) t (s .tag) (s .channel) (h .mark) → Both s st h c (receive s c (Message b u ∷ es))
-    unfolding checkpointsFirst logFor logNeeded enterWord withWord setEntries withChannel addEvent
-    idle-message t e w =
-        plainly s st h c i l ends fits b u es is (rw e) (rw e) (on-early (s .topology) c b h (unmarked-sender (w .marks _ (ends c l .0))))
-        (subst (InRound (s .topology) st (entered s c b u es s) (heard s st h c i l ends fits b u es is h)) (sym e) (idle t (receive-uniform (s .topology) c b u es l is w)))
+-- the marker, with a receiver that has its logical checkpoint
+marker-taken : (s : GlobalState) (st : List ℕ) (h : History) (i : Inv s st h) (c : ℕ) (es : List Entry)
+    → s .round .phase ≡ Logical → s .progress .logical (receiver (s .topology) c) ≡ true → s .channel c ≡ Marker ∷ es
+    → Inv (setEntries c es (close c s)) st h
+unfolding setEntries withChannel close withProgress withClosed
+marker-taken s st h i c es phase flag first =
+    record {
+      sized = i .sized;
+      stored = i .stored;
+      tag = i .tag;
+      processes = i .processes;
+      channels =
+          by-index (λ d. d < s .topology .channels
+          → ChannelHolds (i .tag) (s .round .phase) (channelAt (setEntries c es (close c s)) st h d)) c
+          (λ k.
+          rw (phase, upd-same (s .channel) c es, upd-same (s .progress .closed) c true)
+          (channel-shut es first flag (channel-in i phase c k)))
+          (λ d o k.
+          rw (upd-other (s .channel) c d es o, upd-other (s .progress .closed) c d true o) (i .channels d k));
+    }
 
-    -- the room that the check found
-    room-in : (log : Log) → logFor s c u ≡ some log → isFull s (logFor s c u) ≡ false → countOf (s .counts) log < places log
-    unfolding isFull
-    room-in log e f = leb-false (places log) (countOf (s .counts) log) (subst (λ (x : Option Log). isFull s x ≡ false) e f)
+-- a new message, with such a receiver
+new-taken : (s : GlobalState) (st : List ℕ) (h : History) (i : Inv s st h) (ends : EndsPlanned (s .topology)) (c b : ℕ)
+    (u : Bool) (es : List Entry) (l : c < s .topology .channels) → s .round .phase ≡ Logical
+    → s .progress .logical (receiver (s .topology) c) ≡ true → u ≡ not (i .tag) → s .channel c ≡ Message b u ∷ es
+    → Inv (enterBody (receiver (s .topology) c) (Message b u) (setEntries c es (withCounts (s .counts) s))) st
+    (addEvent (receiver (s .topology) c) (receivedOn c b) h)
+new-taken s st h i ends c b u es l phase flag new first =
+    let r : ℕ = receiver (s .topology) c in
+    let process = process-in i phase r (ends c l .1) in
+    unlogged s st h i ends c b u es l (rw phase (received-after c b flag process))
+    (rw phase
+    (taken-new (i .tag) r (processAt s st h r) (channelAt s st h c) c b u es first refl process refl
+    (channel-in i phase c l)
+    flag new))
 
-    physical-message : (t : Bool) (next : ℕ) → s .round .phase ≡ Physical next → Uniform (s .topology) t (s .tag) (s .channel) (h .mark) → Copied (s .topology) st (s .round .line + 1) next s → isFull s (logFor s c u) ≡ false → Both s st h c (receive s c (Message b u ∷ es))
-    unfolding checkpointsFirst logFor logNeeded enterWord withWord setEntries withChannel addEvent raiseCount withCounts nextLine
-    physical-message t next e w copied free = go (test (ltb (receiver (s .topology) c) next))
-      where
-        no-first : first-checkpoint s c (Message b u) ≡ false
-        no-first = rw e
+module _ (s : GlobalState) (st : List ℕ) (h : History) (c : ℕ) (l : c < s .topology .channels)
+    (ends : EndsPlanned (s .topology))
+    (fits : Fits (s .topology) (s .counts)) (i : Inv s st h) where
+  abbrev r : ℕ
+  r = receiver (s .topology) c
 
-        early : onMessage (s .topology) c b h ≡ heard s st h c i l ends fits b u es is h
-        early = on-early (s .topology) c b h (unmarked-sender (w .marks _ (ends c l .0)))
+  abbrev rl : r < s .topology .processes
+  rl = ends c l .1
 
-        go : Tested (ltb (receiver (s .topology) c) next) → Both s st h c (receive s c (Message b u ∷ es))
-        go (fails f) =
-            plainly s st h c i l ends fits b u es is no-first (rw (e, f)) early
-            (subst (InRound (s .topology) st (entered s c b u es s) (heard s st h c i l ends fits b u es is h)) (sym e)
-            (physical t (receive-uniform (s .topology) c b u es l is w) (receive-copied s st (s .round .line + 1) next c b u es copied (ltb-false _ _ f))))
-        go (holds f) =
-            let needs : logFor s c u ≡ some (messageLog (receiver (s .topology) c)) = rw (e, f) in
-            let room = room-in (messageLog (receiver (s .topology) c)) needs free in
-            logging s st h c i l ends fits b u es is (messageLog (receiver (s .topology) c)) (ends c l .1) room no-first needs early
-            (subst (InRound (s .topology) (logStore s st (nextLine s) (messageLog (receiver (s .topology) c)) b) (entered-logged s c b u es (messageLog (receiver (s .topology) c))) (heard s st h c i l ends fits b u es is h)) (sym e)
-            (physical t (receive-uniform (s .topology) c b u es l is w) (receive-copied-logged s st (s .round .line + 1) next c b u es copied (i .sized) fits (ltb-true _ _ f) room)))
-            (copied .counts)
+  -- what a receive with this reaction keeps, if the logs that it needs have room
+  abbrev Kept : Reaction → Entry → List Entry → Type 0
+  Kept x e es = anyFull (s .counts) (x .logs) ≡ false → Both s st h c (receiveBy x s c e es)
 
-    module _ (t : Bool) (e : s .round .phase ≡ Logical) (m : Marking (s .topology) t st (s .round .line + 1) s h) where
-      here : EntriesAt s t st (s .round .line + 1) h c (Message b u ∷ es)
-      here = recast refl refl refl refl is refl refl refl (m .channels c l)
+  reacts : {x : Reaction} (e : Entry) (es : List Entry) → reaction s c e ≡ x → Kept x e es → Kept (reaction s c e) e es
+  reacts e es is kept = subst (λ (x : Reaction). Kept x e es) (sym is) kept
 
-      r-mark : Marked (length (h .events (receiver (s .topology) c))) (s .progress .checkpointed (receiver (s .topology) c)) (h .mark (receiver (s .topology) c))
-      r-mark = m .marks (receiver (s .topology) c) (ends c l .1)
+  -- the sender has no mark outside the logical phase
+  module _ (b : ℕ) (u : Bool) (es : List Entry) (first : s .channel c ≡ Message b u ∷ es) where
+    idle : s .round .phase ≡ Idle → Kept (reaction s c (Message b u)) (Message b u) es
+    unfolding reaction reactionTo bookOf
+    idle phase =
+        reacts (Message b u) es (rw phase)
+        (λ room.
+        message-unlogged s st h i ends c b u es l fits
+        (on-unmarked (s .topology) c b h (process-in i phase _ (ends c l .0) .round .mark))
+        (rw phase (received-idle c b (process-in i phase r rl)))
+        (rw phase
+        (taken-idle (i .tag) r (processAt s st h r) (channelAt s st h c) c b u es first refl (process-in i phase r rl)
+        (channel-in i phase c l))))
 
-      in-logical : (x : GlobalState) (y : List ℕ) (g : History) → Marking (s .topology) t y (x .round .line + 1) x g → InRound (s .topology) y x g (s .round .phase)
-      in-logical x y g k = subst (InRound (s .topology) y x g) (sym e) (logical t k)
+    physical : (next : ℕ) → s .round .phase ≡ Physical next → Tested (ltb r next)
+        → Kept (reaction s c (Message b u)) (Message b u) es
+    unfolding reaction reactionTo bookOf anyFull logsOnly
+    physical next phase (holds e) =
+        reacts (Message b u) es (rw (phase, e))
+        (λ room.
+        message-logged s st h i ends c b u es l fits
+        (on-unmarked (s .topology) c b h (process-in i phase _ (ends c l .0) .round .plain .mark))
+        (leb-false _ _ (or-left _ _ room))
+        (rw phase (received-saved next c b (ltb-true r next e) (process-in i phase r rl)))
+        (rw phase
+        (taken-physical (i .tag) r (processAt s st h r) (channelAt s st h c) c b u es first refl next
+        (process-in i phase r rl) (channel-in i phase c l))))
+    physical next phase (fails e) =
+        reacts (Message b u) es (rw (phase, e))
+        (λ room.
+        message-unlogged s st h i ends c b u es l fits
+        (on-unmarked (s .topology) c b h (process-in i phase _ (ends c l .0) .round .plain .mark))
+        (rw phase (received-waiting next c b (ltb-false r next e) (process-in i phase r rl)))
+        (rw phase
+        (taken-physical (i .tag) r (processAt s st h r) (channelAt s st h c) c b u es first refl next
+        (process-in i phase r rl) (channel-in i phase c l))))
 
-      r-tag : (x : Bool) → s .progress .checkpointed (receiver (s .topology) c) ≡ x → s .tag (receiver (s .topology) c) ≡ tagged t x
-      r-tag x z = m .tags (receiver (s .topology) c) (ends c l .1) ∙ ap (tagged t) z
+    -- in the logical phase, with a receiver that has its logical checkpoint: a new message, and an old one
+    module _ (phase : s .round .phase ≡ Logical) where
+      own-tag : (x : Bool) → s .progress .logical r ≡ x → s .tag r ≡ tagged (i .tag) x
+      own-tag x e = process-in i phase r rl .round .tag ∙ ap (tagged (i .tag)) e
 
-      -- before the receiver's checkpoint: an old message is logged, a new one gives it its checkpoint
-      old-before : s .progress .checkpointed (receiver (s .topology) c) ≡ false → Bool·beq u (s .tag (receiver (s .topology) c)) ≡ true → isFull s (logFor s c u) ≡ false → Both s st h c (receive s c (Message b u ∷ es))
-      unfolding checkpointsFirst differs logFor logNeeded nextLine tagged raiseCount withCounts enterWord withWord setEntries withChannel
-      old-before z q free =
-          let old : u ≡ t = equal-tags u _ q ∙ r-tag false z in
-          let needs : logFor s c u ≡ some (messageLog (receiver (s .topology) c)) = rw (e, q, z) in
-          let room = room-in (messageLog (receiver (s .topology) c)) needs free in
-          logging s st h c i l ends fits b u es is (messageLog (receiver (s .topology) c)) (ends c l .1) room (rw (e, z, q)) needs
-          (on-early (s .topology) c b h (old-is-early (s .topology) c b h (m .marks _ (ends c l .0)) (no-mark r-mark z) here old))
-          (in-logical _ _ _ (marking-message s st h t (s .round .line + 1) c ends m l b u es is z (i .sized) fits room old))
-          (m .counts)
+      after : s .progress .logical r ≡ true → Tested (Bool·beq u (s .tag r))
+          → Kept (reaction s c (Message b u)) (Message b u) es
+      unfolding reaction reactionTo bookOf anyFull logsOnly tagged
+      after e (holds q) =
+          reacts (Message b u) es (rw (phase, e, q))
+          (λ room.
+          message-unlogged s st h i ends c b u es l fits
+          (on-marked (s .topology) c b h (process-in i phase r rl .round .mark) e)
+          (rw phase (received-after c b e (process-in i phase r rl)))
+          (rw phase
+          (taken-new (i .tag) r (processAt s st h r) (channelAt s st h c) c b u es first refl (process-in i phase r rl)
+          refl
+          (channel-in i phase c l) e (beq-same _ _ q ∙ own-tag true e))))
+      after e (fails q) =
+          reacts (Message b u) es (rw (phase, e, q))
+          (λ room.
+          channel-logged s st h i ends c b u es l fits
+          (on-marked (s .topology) c b h (process-in i phase r rl .round .mark) e)
+          (leb-false _ _ (or-left _ _ room))
+          (rw phase (received-after c b e (process-in i phase r rl)))
+          (rw phase
+          (taken-logged (i .tag) r (processAt s st h r) (channelAt s st h c) c b u es first refl
+          (process-in i phase r rl)
+          refl (channel-in i phase c l) e (beq-other _ _ q ∙ ap not (own-tag true e) ∙ Bool·not-not _))))
 
-      new-before : s .progress .checkpointed (receiver (s .topology) c) ≡ false → Bool·beq u (s .tag (receiver (s .topology) c)) ≡ false → Both s st h c (receive s c (Message b u ∷ es))
-      unfolding checkpointsFirst differs logFor logNeeded tagged checkpoint withTag withProgress enterWord withWord setEntries withChannel markNow
-      new-before z q =
-          let new : u ≡ not t = other-tags u _ q ∙ ap not (r-tag false z) in
-          checkpointing s st h c i l ends fits b u es is (rw (e, z, q)) (rw (e, q, z))
-          (on-late (s .topology) c b h
-          (new-is-late (s .topology) c b h (m .marks _ (ends c l .0)) (no-mark r-mark z) here new z (new-sender here new) (i .flow .channels c l ∙ ap (λ (x : List Entry). bodiesOn received c (h .events (receiver (s .topology) c)) ++ bodies x) is))
-          (no-mark r-mark z))
-          (in-logical _ _ _
-          (marking-new (checkpoint (receiver (s .topology) c) s) st (markNow (receiver (s .topology) c) h) t (s .round .line + 1) c ends
-          (marking-checkpoint (receiver (s .topology) c) (ends c l .1) z m) l b u es is (upd-same (s .progress .checkpointed) _ true) new))
+      -- with one that has none yet: an old message, and a new one, which gives it its logical checkpoint first
+      before-old : s .progress .logical r ≡ false → Bool·beq u (s .tag r) ≡ true
+          → Kept (reaction s c (Message b u)) (Message b u) es
+      unfolding reaction reactionTo bookOf seenOf anyFull logsOnly tagged
+      before-old e q =
+          let old : u ≡ i .tag = beq-same _ _ q ∙ own-tag false e in
+          reacts (Message b u) es (rw (phase, e, q))
+          (λ room.
+          message-logged s st h i ends c b u es l fits
+          (on-early (s .topology) c b h
+          (old-is-early (s .topology) c b h (process-in i phase _ (ends c l .0) .round .mark)
+          (no-mark (process-in i phase r rl .round .mark) e) (rw first at (channel-in i phase c l .round .balanced))
+          old))
+          (leb-false _ _ (or-left _ _ room))
+          (rw phase (received-before c b e (process-in i phase r rl)))
+          (rw phase
+          (taken-before (i .tag) r (processAt s st h r) (channelAt s st h c) c b u es first refl
+          (process-in i phase r rl)
+          refl (channel-in i phase c l) e old)))
 
-      -- after it: a new message is not logged, an old one goes into the channel log
-      new-after : s .progress .checkpointed (receiver (s .topology) c) ≡ true → Bool·beq u (s .tag (receiver (s .topology) c)) ≡ true → Both s st h c (receive s c (Message b u ∷ es))
-      unfolding checkpointsFirst differs logFor logNeeded tagged enterWord withWord setEntries withChannel
-      new-after z q =
-          plainly s st h c i l ends fits b u es is (rw (e, z)) (rw (e, q, z))
-          (on-marked (s .topology) c b h (subst (λ (x : Bool). Marked (length (h .events (receiver (s .topology) c))) x (h .mark (receiver (s .topology) c))) z r-mark))
-          (in-logical _ _ _ (marking-new s st h t (s .round .line + 1) c ends m l b u es is z (equal-tags u _ q ∙ r-tag true z)))
+      module _ (e : s .progress .logical r ≡ false) (q : Bool·beq u (s .tag r) ≡ false) where
+        new : u ≡ not (i .tag)
+        unfolding tagged
+        new = beq-other _ _ q ∙ ap not (own-tag false e)
 
-      old-after : s .progress .checkpointed (receiver (s .topology) c) ≡ true → Bool·beq u (s .tag (receiver (s .topology) c)) ≡ false → isFull s (logFor s c u) ≡ false → Both s st h c (receive s c (Message b u ∷ es))
-      unfolding checkpointsFirst differs logFor logNeeded nextLine tagged raiseCount withCounts enterWord withWord setEntries withChannel
-      old-after z q free =
-          let old : u ≡ t = other-tags u _ q ∙ ap not (r-tag true z) ∙ Bool·not-not t in
-          let needs : logFor s c u ≡ some (channelLog c) = rw (e, q, z) in
-          let room = room-in (channelLog c) needs free in
-          logging s st h c i l ends fits b u es is (channelLog c) l room (rw (e, z)) needs
-          (on-marked (s .topology) c b h (subst (λ (x : Bool). Marked (length (h .events (receiver (s .topology) c))) x (h .mark (receiver (s .topology) c))) z r-mark))
-          (in-logical _ _ _ (marking-channel s st h t (s .round .line + 1) c ends m l b u es is z (i .sized) fits room old))
-          (m .counts)
+        told : onMessage (s .topology) c b h ≡ addEvent r (receivedOn c b) (markNow r h)
+        unfolding bookOf seenOf
+        told =
+            let balanced = rw first at (channel-in i phase c l .round .balanced) in
+            let unmarked-yet = no-mark (process-in i phase r rl .round .mark) e in
+            on-late (s .topology) c b h
+            (new-is-late (s .topology) c b h (process-in i phase _ (ends c l .0) .round .mark) unmarked-yet balanced
+            new e
+            (new-sender balanced new) (rw first at (channel-in i phase c l .now)))
+            unmarked-yet
 
-      logical-message : isFull s (logFor s c u) ≡ false → Both s st h c (receive s c (Message b u ∷ es))
-      logical-message free = go (test (s .progress .checkpointed (receiver (s .topology) c))) (test (Bool·beq u (s .tag (receiver (s .topology) c))))
-        where
-          go : Tested (s .progress .checkpointed (receiver (s .topology) c)) → Tested (Bool·beq u (s .tag (receiver (s .topology) c))) → Both s st h c (receive s c (Message b u ∷ es))
-          go (fails z) (holds q) = old-before z q free
-          go (fails z) (fails q) = new-before z q
-          go (holds z) (holds q) = new-after z q
-          go (holds z) (fails q) = old-after z q free
+        -- the state with the logical checkpoint
+        abbrev saved : GlobalState
+        saved = logicalCheckpoint r s
 
-    message-kept : {ph : Phase} → s .round .phase ≡ ph → InRound (s .topology) st s h ph → isFull s (logFor s c u) ≡ false → Both s st h c (receive s c (Message b u ∷ es))
-    message-kept e (idle t w) free = idle-message t e w
-    message-kept e (physical {next} t w copied) free = physical-message t next e w copied free
-    message-kept e (logical t m) free = logical-message t e m free
+        before-new : Kept (reaction s c (Message b u)) (Message b u) es
+        unfolding reaction reactionTo react raisedAll logsWrites writeAll receivedOutcome onStep onAccepted onReceive
+            accepted logicalCheckpoint withTag withProgress withLogical withCounts setEntries withChannel enterBody
+            withWord
+        before-new =
+            reacts {x = record { logicalFirst = true; closes = false; logs = [] }} (Message b u) es (rw (phase, e, q))
+            (λ room.
+            record {
+              lasts =
+                  rw told
+                  (new-taken saved st (markNow r h) (logical-kept s st h r rl phase e i) ends c b u es l phase
+                  (upd-same (s .progress .logical) r true)
+                  (new ∙ ap not (sym (logical-tag s st h r rl phase e i))) first);
+              lost = λ x k. absurd (omega arith);
+            })
 
-  -- a marker
-  module _ (es : List Entry) (is : s .channel c ≡ Marker ∷ es) where
-    no-marker : {X : Type 0} (t : Bool) (bs : List ℕ) → s .channel c ≡ messages t bs → X
-    unfolding messages
-    no-marker t [] e = let p : Marker ∷ es ≡ [] = sym is ∙ e in let z : _≡_ {A = ℕ} 0 1 = cc in absurd (omega arith)
-    no-marker t (b ∷ bs) e = let p : Marker ∷ es ≡ Message b t ∷ messages t bs = sym is ∙ e in let z : _≡_ {A = ℕ} 0 1 = cc in absurd (omega arith)
+      message : Tested (s .progress .logical r) → Tested (Bool·beq u (s .tag r))
+          → Kept (reaction s c (Message b u)) (Message b u) es
+      message (holds e) same-tag = after e same-tag
+      message (fails e) (holds q) = before-old e q
+      message (fails e) (fails q) = before-new e q
 
-    marker-flow : Flow (s .topology) (s .word) (upd (s .channel) c es) (h .events)
-    unfolding bodies
-    marker-flow =
+  -- the marker, which comes in the logical phase alone
+  module _ (es : List Entry) (first : s .channel c ≡ Marker ∷ es) (phase : s .round .phase ≡ Logical) where
+    marker : Tested (s .progress .logical r) → Kept (reaction s c Marker) Marker es
+    unfolding reaction reactionTo react raisedAll logsWrites writeAll receivedOutcome onStep onAccepted onReceive
+        accepted logicalCheckpoint withTag withProgress withLogical withClosed withCounts setEntries withChannel close
+        enterBody
+        bookOf
+        markUnmarked
+    marker (holds e) =
+        reacts {x = record { logicalFirst = false; closes = true; logs = [] }} Marker es (rw (phase, e))
+        (λ room.
         record {
-          words = i .flow .words;
-          channels =
-              by-index (λ d. d < s .topology .channels → bodiesOn sent d (h .events (sender (s .topology) d)) ≡ bodiesOn received d (h .events (receiver (s .topology) d)) ++ bodies (upd (s .channel) c es d)) c
-              (λ k. i .flow .channels c k ∙ ap (λ (x : List ℕ). bodiesOn received c (h .events (receiver (s .topology) c)) ++ x) (ap bodies is ∙ ap bodies (sym (upd-same (s .channel) c es))))
-              (λ d o k. i .flow .channels d k ∙ ap (λ (x : List Entry). bodiesOn received d (h .events (receiver (s .topology) d)) ++ bodies x) (sym (upd-other (s .channel) c d es o)));
-        }
+          lasts =
+              rw (stays-marked (s .topology) c 0 h (process-in i phase r rl .round .mark) e)
+              (marker-taken s st h i c es phase e first);
+          lost = λ x k. absurd (omega arith);
+        })
+    marker (fails e) =
+        reacts {x = record { logicalFirst = true; closes = true; logs = [] }} Marker es (rw (phase, e))
+        (λ room.
+        record {
+          lasts =
+              rw (no-mark (process-in i phase r rl .round .mark) e)
+              (marker-taken (logicalCheckpoint r s) st (markNow r h) (logical-kept s st h r rl phase e i) c es phase
+              (upd-same (s .progress .logical) r true) first);
+          lost = λ x k. absurd (omega arith);
+        })
 
-    -- the result in the logical phase, where the receiver has its checkpoint already (x is s) or gets it now
-    marker-result : (x : GlobalState) (g : History) → s .round .phase ≡ Logical → removeFirst s c Marker es ≡ setEntries c es x → markUnmarked (h .mark (receiver (s .topology) c)) (receiver (s .topology) c) h ≡ g → Inv (s .topology) (close c (setEntries c es x)) st g (s .round .line) → Both s st h c (receive s c (Marker ∷ es))
-    unfolding receive closes quietly onStep onAccepted onReceive accepted countCommit isCommit writeAll
-    marker-result x g e p q k =
-        subst (Both s st h c) (sym (ap₂ (λ (y : Phase) (z : GlobalState). quietly ReceivedMarker (cond (closes y) (close c z) z)) e p))
-        (subst (λ (y : History). Inv (s .topology) (close c (setEntries c es x)) st y (s .round .line)) (sym q) k, no-cut s st h c i l ends fits (quietly ReceivedMarker (close c (setEntries c es x))) refl)
+  -- any entry, in any phase
+  entry : (ph : Phase) → s .round .phase ≡ ph → (e : Entry) (es : List Entry) → s .channel c ≡ e ∷ es
+      → Kept (reaction s c e) e es
+  entry Idle phase (Message b u) es first = idle b u es first phase
+  entry Idle phase Marker es first = no-marker (i .tag) _ es (sym first ∙ channel-in i phase c l .round)
+  entry (Physical next) phase (Message b u) es first = physical b u es first next phase (test (ltb r next))
+  entry (Physical next) phase Marker es first =
+      no-marker (i .tag) _ es (sym first ∙ channel-in i phase c l .round .plain)
+  entry Logical phase (Message b u) es first =
+      message b u es first phase (test (s .progress .logical r)) (test (Bool·beq u (s .tag r)))
+  entry Logical phase Marker es first = marker es first phase (test (s .progress .logical r))
 
-    logical-marker : (t : Bool) → s .round .phase ≡ Logical → Marking (s .topology) t st (s .round .line + 1) s h → Both s st h c (receive s c (Marker ∷ es))
-    unfolding removeFirst checkpointsFirst differs markUnmarked close withProgress setEntries withChannel checkpoint withTag markNow
-    logical-marker t e m = go (test (s .progress .checkpointed (receiver (s .topology) c)))
-      where
-        removed : (x : Bool) → s .progress .checkpointed (receiver (s .topology) c) ≡ x → removeFirst s c Marker es ≡ setEntries c es (cond (not x) (checkpoint (receiver (s .topology) c) s) s)
-        removed x z = ap (λ (y : Bool). setEntries c es (cond y (checkpoint (receiver (s .topology) c) s) s)) (first x z)
-          where
-            first : (x : Bool) → s .progress .checkpointed (receiver (s .topology) c) ≡ x → first-checkpoint s c Marker ≡ not x
-            first true z = rw (e, z)
-            first false z = rw (e, z)
-
-        mark-is : {n : ℕ} {y : Bool} {k : Option ℕ} → Marked n y k → y ≡ true → markUnmarked k (receiver (s .topology) c) h ≡ h
-        mark-is unmarked z = true-is-not-false z refl
-        mark-is (marked x) z = refl
-
-        go : Tested (s .progress .checkpointed (receiver (s .topology) c)) → Both s st h c (receive s c (Marker ∷ es))
-        go (holds z) =
-            marker-result s h e (removed true z) (mark-is (m .marks (receiver (s .topology) c) (ends c l .1)) z)
-            (record {
-              topology = refl;
-              line = refl;
-              sized = i .sized;
-              flow = marker-flow;
-              finished = i .finished;
-              round = subst (InRound (s .topology) st (close c (setEntries c es s)) h) (sym e) (logical t (marking-marker s st h t (s .round .line + 1) c ends m l es is z));
-            })
-        go (fails z) =
-            marker-result (checkpoint (receiver (s .topology) c) s) (markNow (receiver (s .topology) c) h) e (removed false z) (rw (no-mark (m .marks (receiver (s .topology) c) (ends c l .1)) z))
-            (record {
-              topology = refl;
-              line = refl;
-              sized = i .sized;
-              flow = marker-flow;
-              finished = i .finished;
-              round =
-                  subst (InRound (s .topology) st (close c (setEntries c es (checkpoint (receiver (s .topology) c) s))) (markNow (receiver (s .topology) c) h)) (sym e)
-                  (logical t
-                  (marking-marker (checkpoint (receiver (s .topology) c) s) st (markNow (receiver (s .topology) c) h) t (s .round .line + 1) c ends
-                  (marking-checkpoint (receiver (s .topology) c) (ends c l .1) z m) l es is (upd-same (s .progress .checkpointed) _ true)));
-            })
-
-    marker-kept : {ph : Phase} → s .round .phase ≡ ph → InRound (s .topology) st s h ph → Both s st h c (receive s c (Marker ∷ es))
-    marker-kept e (idle t w) = no-marker t _ (w .plain c l)
-    marker-kept e (physical t w copied) = no-marker t _ (w .plain c l)
-    marker-kept e (logical t m) = logical-marker t e m
-
-  -- A receive keeps the invariant.
-  pub receive-kept : noEntry (s .channel c) ≡ false → isFull s (logOfFirst s c (s .channel c)) ≡ false → Keeps s st h (Receive c) × KeepsCut s st h (Receive c)
-  unfolding effect noEntry logOfFirst
-  receive-kept there free = go (s .channel c) refl there free
+  pub receive-kept : noEntry (s .channel c) ≡ false
+      → anyFull (s .counts) (firstReaction s c (s .channel c) .logs) ≡ false
+      → Keeps s st h (Receive c)
+  unfolding effect receive noEntry firstReaction
+  receive-kept some-entry room =
+      let both = go (s .channel c) refl some-entry room in record { lasts = both .lasts; lost = both .lost }
     where
-      go : (es : List Entry) → s .channel c ≡ es → noEntry es ≡ false → isFull s (logOfFirst s c es) ≡ false → Both s st h c (receive s c (s .channel c))
-      go [] e n f = true-is-not-false refl n
-      go (Message b u ∷ es) e n f = subst (λ (x : List Entry). Both s st h c (receive s c x)) (sym e) (message-kept b u es e refl (i .round) f)
-      go (Marker ∷ es) e n f = subst (λ (x : List Entry). Both s st h c (receive s c x)) (sym e) (marker-kept es e refl (i .round))
+      go : (es : List Entry) → s .channel c ≡ es → noEntry es ≡ false
+          → anyFull (s .counts) (firstReaction s c es .logs) ≡ false → Both s st h c (receive s c (s .channel c))
+      go [] is has room = true-is-not-false refl has
+      go (e ∷ es) is has room =
+          subst (λ (xs : List Entry). Both s st h c (receive s c xs)) (sym is)
+          (entry (s .round .phase) refl e es is room)

@@ -1,6 +1,6 @@
--- Recover, where the invariant holds: it is not refused, it gives what demand 3 claims, and the invariant holds after it. And the invariant holds after
--- an accepted initialize.
-use Prim.Native.Nat.{ℕ, _<_, _≤_}
+-- Recover, where the invariant holds: it is not refused, it gives what demand 3 claims, and the invariant holds after
+-- it. And the invariant holds after an accepted initialize.
+use Prim.Native.Nat.{ℕ, _<_}
 use mathlib.Core.Path.{_≡_, refl, sym, ap, subst, _∙_}
 use mathlib.Core.Bool.{true, false}
 use mathlib.Core.List.{List, [], _++_}
@@ -12,112 +12,134 @@ use native.Mathlib.Omega.{arith}
 use native.Mathlib.Nat.{le-refl}
 use Rattle.model.specs.declared.Topology.{Topology}
 use Rattle.model.specs.declared.Start.the-variants.{Ready}
-use Rattle.model.specs.Notation.{firstRefusal, orElse}
+use Rattle.model.specs.Notation.{tabulate, orElse}
+use Rattle.model.specs.Check.{firstRefusal}
 use Rattle.model.specs.Word.{replay}
 use Rattle.model.specs.Topology.{sender, receiver, hasProcess, hasChannel, topologyRefusal}
 use Rattle.model.specs.Channel.{bodies, messages, markerless}
-use Rattle.model.specs.Layout.{storeCells, cell, messageLog, channelLog, places, countCell, logged}
+use Rattle.model.specs.Layout.{storeCells, messageLog, channelLog, entriesFrom, entriesBy, logged}
 use Rattle.model.specs.State.{GlobalState, idleState}
 use Rattle.model.specs.Write.{writeAll}
-use Rattle.model.specs.Start.{Begun, begunOr, initialize, initializeRefusal, initializeWrites, recover, recoverRefusal, recoveredWord, recoveredChannel, storedLine, countsFit}
-use Rattle.model.specs.History.{Event, History, newHistory, sent, received, bodiesOn, receivedBodies, onRecover}
+use Rattle.model.specs.Start.{Startup, startupOr, initialize, initializeRefusal, initializeWrites, storedLine}
+use Rattle.model.specs.Start.{countFits, countsFit, recover, recoverRefusal, restoredBy, restored, recoveredWord}
+use Rattle.model.specs.Start.{recoveredChannel}
+use Rattle.model.specs.History.{Event, History, newHistory, sent, received, bodiesOn, receivedBodies}
+use Rattle.model.specs.History.{onRecover}
 use Rattle.model.specs.Claim.{Recovered}
-use Rattle.model.proofs.laws.Laws.{and-both, all-of}
-use Rattle.model.proofs.laws.Refused.{ready, or-else-none}
+use Rattle.model.proofs.laws.Tests.{and-both}
+use Rattle.model.proofs.laws.Lists.{all-of}
+use Rattle.model.proofs.laws.Calls.{ready}
+use Rattle.model.proofs.laws.ChannelLaws.{bodies-messages, messages-markerless}
 use Rattle.model.proofs.laws.HistoryLaws.{wordOf}
-use Rattle.model.proofs.line.ChannelState.{bodies-messages, messages-markerless}
-use Rattle.model.proofs.store.Store.{sized-start, sized-after, Initialized, initialized}
-use Rattle.model.proofs.line.Invariant.{saved, Finished, idle, Inv}
+use Rattle.model.proofs.store.Sizes.{admitted, sized-start, sized-after}
+use Rattle.model.proofs.store.Slots.{Initialized, initialized}
+use Rattle.model.proofs.line.Values.{slotOf, heldOf, bookOf, seenOf}
+use Rattle.model.proofs.line.Invariant.{Inv}
 
--- the histories as a recover leaves them
-abbrev cut : History → ℕ → List Event
-cut h p = take (h .line p) (h .events p)
+-- a history as a recover leaves it
+abbrev shortened : History → ℕ → List Event
+shortened h p = take (h .line p) (h .events p)
 
-module _ (T : Topology) (good : topologyRefusal T ≡ none) (s : GlobalState) (st : List ℕ) (h : History) (k : ℕ) (i : Inv T s st h k) where
-  line-is : storedLine st ≡ k
-  unfolding storedLine
-  line-is = i .finished .stored
+module _ (s : GlobalState) (st : List ℕ) (h : History) (good : topologyRefusal (s .topology) ≡ none) (i : Inv s st h)
+  where
+    abbrev T : Topology
+    T = s .topology
 
-  counts-fit : countsFit T st ≡ true
-  unfolding countsFit
-  counts-fit =
-      and-both _ _
-      (all-of (T .processes) _ (λ p l. le-leb _ _ (subst (λ (n : ℕ). cell st (countCell n (messageLog p)) ≤ places (messageLog p)) (sym line-is) (i .finished .counts (messageLog p) l))))
-      (all-of (T .channels) _ (λ c l. le-leb _ _ (subst (λ (n : ℕ). cell st (countCell n (channelLog c)) ≤ places (channelLog c)) (sym line-is) (i .finished .counts (channelLog c) l))))
+    abbrev k : ℕ
+    k = s .round .line
 
-  not-refused : recoverRefusal T st ≡ none
-  unfolding recoverRefusal initializeRefusal orElse firstRefusal
-  not-refused = rw (good, le-ltb (length st) storeCells (i .sized .cells), counts-fit)
+    line-is : storedLine st ≡ k
+    unfolding storedLine
+    line-is = i .stored
 
-  recovered : GlobalState
-  recovered = idleState T (storedLine st) (recoveredWord T st) (recoveredChannel T st)
+    counts-fit : countsFit T st ≡ true
+    unfolding countsFit countFits slotOf heldOf
+    counts-fit =
+        rw line-is
+        (and-both _ _ (all-of (T .processes) _ (λ p l. le-leb _ _ (i .processes p l .fits)))
+        (all-of (T .channels) _ (λ c l. le-leb _ _ (i .channels c l .fits))))
 
-  recover-is : recover T st ≡ record { start = Ready; state = recovered; store = st }
-  unfolding recover begunOr recovered
-  recover-is = rw not-refused
+    not-refused : recoverRefusal T st ≡ none
+    unfolding recoverRefusal initializeRefusal orElse firstRefusal
+    not-refused = rw (good, le-ltb (length st) storeCells (i .sized .cells), counts-fit)
 
-  word-is : (p : ℕ) → p < T .processes → recoveredWord T st p ≡ wordOf (cut h p)
-  unfolding recoveredWord hasProcess saved
-  word-is p l = rw (lt-ltb p (T .processes) l, line-is) (i .finished .words p l)
+    abbrev recovered : GlobalState
+    recovered = idleState T k (recoveredWord T st) (recoveredChannel T st)
 
-  channel-is : (c : ℕ) → c < T .channels → recoveredChannel T st c ≡ messages false (logged st k (channelLog c))
-  unfolding recoveredChannel hasChannel
-  channel-is c l = rw (lt-ltb c (T .channels) l, line-is)
+    recover-is : recover T st ≡ record { start = Ready; state = recovered; store = st }
+    unfolding recover startupOr
+    recover-is = rw (not-refused, line-is)
 
-  bodies-are : (c : ℕ) → c < T .channels → bodies (recoveredChannel T st c) ≡ logged st k (channelLog c)
-  bodies-are c l = ap bodies (channel-is c l) ∙ bodies-messages false (logged st k (channelLog c))
+    word-is : (p : ℕ) → p < T .processes → recoveredWord T st p ≡ wordOf (shortened h p)
+    unfolding recoveredWord hasProcess slotOf bookOf
+    word-is p l = rw (lt-ltb p (T .processes) l, line-is) (i .processes p l .finished)
 
-  balanced : (c : ℕ) → c < T .channels → bodiesOn sent c (cut h (sender T c)) ≡ bodiesOn received c (cut h (receiver T c)) ++ bodies (recoveredChannel T st c)
-  balanced c l = i .finished .channels c l ∙ ap (λ (x : List ℕ). bodiesOn received c (cut h (receiver T c)) ++ x) (sym (bodies-are c l))
+    channel-is : (c : ℕ) → c < T .channels → recoveredChannel T st c ≡ messages false (logged st k (channelLog c))
+    unfolding recoveredChannel hasChannel
+    channel-is c l = rw (lt-ltb c (T .channels) l, line-is)
 
-  -- what demand 3 claims
-  pub recovers : Recovered T (recover T st) (onRecover h) k
-  unfolding onRecover recovered idleState wordOf
-  recovers =
-      subst (λ (r : Begun). Recovered T r (onRecover h) k) (sym recover-is)
-      (record {
-        accepted = refl;
-        idle = refl;
-        line = line-is;
-        channels = balanced;
-        markerless = λ c l. ap markerless (channel-is c l) ∙ messages-markerless false (logged st k (channelLog c));
-        words = word-is;
-      })
+    bodies-are : (c : ℕ) → c < T .channels → bodies (recoveredChannel T st c) ≡ logged st k (channelLog c)
+    bodies-are c l = ap bodies (channel-is c l) ∙ bodies-messages false (logged st k (channelLog c))
 
-  -- the line stays what it is in histories that are cut to it
-  cut-again : {A : Type 0} (F : List Event → A) (p : ℕ) → F (take (h .line p) (cut h p)) ≡ F (cut h p)
-  cut-again F p = ap F (take-take (h .line p) (h .line p) (h .events p) (le-refl (h .line p)))
+    balanced : (c : ℕ) → c < T .channels
+        → bodiesOn sent c (shortened h (sender T c))
+        ≡ bodiesOn received c (shortened h (receiver T c)) ++ bodies (recoveredChannel T st c)
+    unfolding seenOf bookOf heldOf
+    balanced c l =
+        i .channels c l .finished
+        ∙ ap (λ (x : List ℕ). bodiesOn received c (shortened h (receiver T c)) ++ x) (sym (bodies-are c l))
 
-  finished-again : Finished T st k (h .line) (cut h)
-  finished-again =
-      record {
-        stored = i .finished .stored;
-        within = λ p l. omega (arith, length-take-le (h .line p) (h .events p) (i .finished .within p l));
-        words = λ p l. i .finished .words p l ∙ sym (cut-again wordOf p);
-        channels = λ c l.
-            cut-again (bodiesOn sent c) (sender T c) ∙ i .finished .channels c l
-            ∙ ap (λ (x : List ℕ). x ++ logged st k (channelLog c)) (sym (cut-again (bodiesOn received c) (receiver T c)));
-        counts = i .finished .counts;
-      }
+    -- what demand 3 claims
+    pub recovers : Recovered T (recover T st) (onRecover h) k
+    unfolding onRecover idleState wordOf
+    recovers =
+        subst (λ (r : Startup). Recovered T r (onRecover h) k) (sym recover-is)
+        (record {
+          accepted = refl;
+          idle = refl;
+          line = refl;
+          channels = balanced;
+          markerless = λ c l. ap markerless (channel-is c l) ∙ messages-markerless false (logged st k (channelLog c));
+          words = word-is;
+        })
 
-  pub recover-kept : Inv T (recover T st .state) (recover T st .store) (onRecover h) k
-  unfolding onRecover recovered idleState
-  recover-kept =
-      subst (λ (r : Begun). Inv T (r .state) (r .store) (onRecover h) k) (sym recover-is)
-      (record {
-        topology = refl;
-        line = line-is;
-        sized = i .sized;
-        flow = record { words = word-is; channels = balanced };
-        finished = finished-again;
-        round =
-            idle false
-            (record {
-              tags = λ p l. refl;
-              plain = λ c l. channel-is c l ∙ ap (messages false) (sym (bodies-are c l));
-              marks = λ p l. refl;
-            });
-      })
+    -- the line stays what it is in histories that are shortened to it
+    shortened-again : {A : Type 0} (F : List Event → A) (p : ℕ)
+        → F (take (h .line p) (shortened h p)) ≡ F (shortened h p)
+    shortened-again F p = ap F (take-take (h .line p) (h .line p) (h .events p) (le-refl (h .line p)))
+
+    pub recover-kept : Inv recovered st (onRecover h)
+    unfolding onRecover idleState bookOf seenOf slotOf heldOf
+    recover-kept =
+        record {
+          sized = i .sized;
+          stored = i .stored;
+          tag = false;
+          processes = λ p l.
+              record {
+                now = word-is p l;
+                within = omega (arith, length-take-le (h .line p) (h .events p) (i .processes p l .within));
+                finished = i .processes p l .finished ∙ sym (shortened-again wordOf p);
+                fits = i .processes p l .fits;
+                round = record { tag = refl; mark = refl };
+              };
+          channels = λ c l.
+              record {
+                now = balanced c l;
+                finished =
+                    shortened-again (bodiesOn sent c) (sender T c) ∙ i .channels c l .finished
+                    ∙ ap (λ (x : List ℕ). x ++ logged st k (channelLog c))
+                    (sym (shortened-again (bodiesOn received c) (receiver T c)));
+                fits = i .channels c l .fits;
+                round = channel-is c l ∙ ap (messages false) (sym (bodies-are c l));
+              };
+        }
+
+    pub recovered-state : recover T st .state ≡ recovered
+    recovered-state = ap (λ (r : Startup). r .state) recover-is
+
+    pub recovered-store : recover T st .store ≡ st
+    recovered-store = ap (λ (r : Startup). r .store) recover-is
 
 module _ (T : Topology) (store : List ℕ) (accepted : initialize T store .start ≡ Ready) where
   no-refusal : initializeRefusal T (length store) ≡ none
@@ -125,37 +147,56 @@ module _ (T : Topology) (store : List ℕ) (accepted : initialize T store .start
   no-refusal = ready _ _ _ _ accepted
 
   pub topology-accepted : topologyRefusal T ≡ none
-  unfolding initializeRefusal
-  topology-accepted = or-else-none _ _ no-refusal .0
+  topology-accepted = admitted T (length store) no-refusal .0
 
-  pub initialize-is : initialize T store ≡ record { start = Ready; state = idleState T 0 (λ p. 0) (λ c. []); store = writeAll store (initializeWrites T) }
-  unfolding initialize begunOr
+  abbrev after : List ℕ
+  after = writeAll store (initializeWrites T)
+
+  initialize-is : initialize T store ≡ record { start = Ready; state = idleState T 0 (λ p. 0) (λ c. []); store = after }
+  unfolding initialize startupOr
   initialize-is = rw no-refusal
 
-  -- the store that initialize leaves holds line 0, with nothing sent or received
-  blank : Initialized T (writeAll store (initializeWrites T))
+  pub initialized-topology : initialize T store .state .topology ≡ T
+  unfolding idleState
+  initialized-topology = ap (λ (r : Startup). r .state .topology) initialize-is
+
+  pub initialized-line : initialize T store .state .round .line ≡ 0
+  unfolding idleState
+  initialized-line = ap (λ (r : Startup). r .state .round .line) initialize-is
+
+  -- line 0, with nothing sent or received
+  blank : Initialized T after
   blank = initialized T store (sized-start T store no-refusal)
 
-  nothing-saved : (p : ℕ) → p < T .processes → saved (writeAll store (initializeWrites T)) 0 p ≡ 0
-  unfolding saved replay
-  nothing-saved p l = rw (blank .checkpoints p l, blank .logs (messageLog p) l)
+  blank-word : (p : ℕ) → p < T .processes → slotOf after 0 p .word ≡ 0
+  unfolding slotOf restored restoredBy entriesBy entriesFrom tabulate replay
+  blank-word p l = rw (blank .counts (messageLog p) l) (blank .physical p l)
 
-  pub initialize-holds : Inv T (initialize T store .state) (initialize T store .store) newHistory 0
-  unfolding idleState newHistory wordOf receivedBodies replay bodiesOn bodies messages
+  blank-log : (c : ℕ) → c < T .channels → heldOf after 0 c .bodies ≡ []
+  unfolding heldOf logged entriesBy entriesFrom tabulate
+  blank-log c l = rw (blank .counts (channelLog c) l)
+
+  pub initialize-holds : Inv (initialize T store .state) (initialize T store .store) newHistory
+  unfolding idleState newHistory bookOf seenOf slotOf heldOf wordOf receivedBodies replay bodiesOn bodies messages
   initialize-holds =
-      subst (λ (r : Begun). Inv T (r .state) (r .store) newHistory 0) (sym initialize-is)
+      subst (λ (r : Startup). Inv (r .state) (r .store) newHistory) (sym initialize-is)
       (record {
-        topology = refl;
-        line = refl;
         sized = sized-after (sized-start T store no-refusal) (initializeWrites T);
-        flow = record { words = λ p l. refl; channels = λ c l. refl };
-        finished =
+        stored = blank .line;
+        tag = false;
+        processes = λ p l.
             record {
-              stored = blank .line;
-              within = λ p l. omega arith;
-              words = nothing-saved;
-              channels = λ c l. sym (blank .logs (channelLog c) l);
-              counts = λ log l. subst (λ (n : ℕ). n ≤ places log) (sym (blank .counts log l)) (omega arith);
+              now = refl;
+              within = omega arith;
+              finished = blank-word p l;
+              fits = rw (blank .counts (messageLog p) l) (omega arith);
+              round = record { tag = refl; mark = refl };
             };
-        round = idle false (record { tags = λ p l. refl; plain = λ c l. refl; marks = λ p l. refl });
+        channels = λ c l.
+            record {
+              now = refl;
+              finished = sym (blank-log c l);
+              fits = rw (blank .counts (channelLog c) l) (omega arith);
+              round = refl;
+            };
       })

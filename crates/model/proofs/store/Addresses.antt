@@ -5,23 +5,23 @@ use mathlib.Core.List.{List}
 use lib.ListN.{length}
 use native.Mathlib.Omega.{arith}
 use Rattle.model.specs.declared.Topology.{Topology}
-use Rattle.model.specs.Layout.{storeCells, lineCell, slot, processRecord, channelRecord, checkpointCell, Log, messageLog, channelLog, places, countCell}
+use Rattle.model.specs.Layout.{lineCell, slotCells, slot, processRecord, channelRecord, physicalCell, Log}
+use Rattle.model.specs.Layout.{messageLog, channelLog, places, countCell, entryCell}
+use Rattle.model.proofs.laws.TopologyLaws.{Planned}
 use Rattle.model.proofs.store.Sizes.{Sized}
-
--- a log of the topology
-abbrev pub Planned : Topology → Log → Type 0
-Planned T (messageLog p) = p < T .processes
-Planned T (channelLog c) = c < T .channels
 
 -- cell a belongs to the slot for line n
 pub record Within (n a : ℕ) : Type 0 where
   pub from : slot n ≤ a
-  pub to : a < slot n + 1632
+  pub to : a < slot n + slotCells
 
 -- cell a belongs to a log for line n: its count, or one of its places
 pub record Of (n : ℕ) (log : Log) (a : ℕ) : Type 0 where
   pub from : countCell n log ≤ a
   pub to : a ≤ countCell n log + places log
+
+pub entry-of : (n : ℕ) (log : Log) (i : ℕ) → i < places log → Of n log (entryCell (countCell n log) i)
+entry-of n log i l = omega arith
 
 -- the next line's slot is the other one, and the line cell is in neither
 pub other-within : (k a : ℕ) → Within k a → Within (k + 1) a → ⊥
@@ -29,49 +29,50 @@ unfolding slot
 other-within k a h g = omega arith
 
 pub line-outside : (n : ℕ) → Within n lineCell → ⊥
-unfolding lineCell slot
+unfolding slot
 line-outside n h = omega arith
 
--- checkpoints are in different cells
-pub one-checkpoint : (n p q : ℕ) → checkpointCell n p ≡ checkpointCell n q → p ≡ q
-unfolding checkpointCell processRecord
-one-checkpoint n p q e = omega arith
+-- physical checkpoints are in different cells
+pub one-physical : (n p q : ℕ) → physicalCell n p ≡ physicalCell n q → p ≡ q
+unfolding physicalCell processRecord
+one-physical n p q e = omega arith
 
 module _ {T : Topology} {st : List ℕ} (sized : Sized T st) where
   -- the store has the line cell and both slots
   pub line-in-store : lineCell < length st
-  unfolding lineCell storeCells
   line-in-store = omega (arith, sized .cells)
 
   pub in-store : (n a : ℕ) → Within n a → a < length st
-  unfolding slot storeCells
+  unfolding slot
   in-store n a h = omega (arith, sized .cells)
 
-  -- checkpoints and logs are within their slot
-  pub checkpoint-within : (n p : ℕ) → p < T .processes → Within n (checkpointCell n p)
-  unfolding checkpointCell processRecord
-  checkpoint-within n p l = omega (arith, sized .processes)
+  -- physical checkpoints and logs are within their slot
+  pub physical-within : (n p : ℕ) → p < T .processes → Within n (physicalCell n p)
+  unfolding physicalCell processRecord
+  physical-within n p l = omega (arith, sized .processes)
 
   pub log-within : (n : ℕ) (log : Log) (a : ℕ) → Planned T log → Of n log a → Within n a
-  unfolding countCell processRecord channelRecord places
+  unfolding countCell processRecord channelRecord
   log-within n (messageLog p) a l h = omega (arith, sized .processes)
   log-within n (channelLog c) a l h = omega (arith, sized .channels)
 
   pub count-within : (n : ℕ) (log : Log) → Planned T log → Within n (countCell n log)
   count-within n log planned = log-within n log (countCell n log) planned (omega arith)
 
-  pub entry-within : (n : ℕ) (log : Log) (i : ℕ) → Planned T log → i < places log → Within n (countCell n log + 1 + i)
-  entry-within n log i planned l = log-within n log (countCell n log + 1 + i) planned (omega arith)
+  pub entry-within : (n : ℕ) (log : Log) (i : ℕ) → Planned T log → i < places log
+      → Within n (entryCell (countCell n log) i)
+  entry-within n log i planned l = log-within n log (entryCell (countCell n log) i) planned (entry-of n log i l)
 
-  -- a cell belongs to one log, and a checkpoint's to none
-  pub one-log : (n : ℕ) (log other : Log) (a : ℕ) → Planned T log → Planned T other → Of n log a → Of n other a → log ≡ other
-  unfolding countCell processRecord channelRecord places
+  -- a cell belongs to one log, and a physical checkpoint's to none
+  pub one-log : (n : ℕ) (log other : Log) (a : ℕ) → Planned T log → Planned T other → Of n log a → Of n other a
+      → log ≡ other
+  unfolding countCell processRecord channelRecord
   one-log n (messageLog p) (messageLog q) a l k h g = ap messageLog (omega arith)
   one-log n (messageLog p) (channelLog c) a l k h g = absurd (omega (arith, sized .processes))
   one-log n (channelLog c) (messageLog q) a l k h g = absurd (omega (arith, sized .processes))
   one-log n (channelLog c) (channelLog d) a l k h g = ap channelLog (omega arith)
 
-  pub no-log : (n p : ℕ) (log : Log) → p < T .processes → Planned T log → Of n log (checkpointCell n p) → ⊥
-  unfolding checkpointCell countCell processRecord channelRecord places
+  pub no-log : (n p : ℕ) (log : Log) → p < T .processes → Planned T log → Of n log (physicalCell n p) → ⊥
+  unfolding physicalCell countCell processRecord channelRecord
   no-log n p (messageLog q) l k h = omega arith
   no-log n p (channelLog c) l k h = omega (arith, sized .processes)

@@ -1,14 +1,16 @@
--- What a list of writes does to one cell, whatever the cells mean: a cell that no write goes to is kept, and a cell that a list of zeros goes to is 0.
+-- What a list of writes does to one cell, whatever the cells mean: a cell that no write goes to is kept, and a cell
+-- that a list of zeros goes to is 0.
 use Prim.Native.Nat.{ℕ, zero, suc, _<_}
 use mathlib.Core.Path.{_≡_, refl, subst, _∙_}
-use mathlib.Core.List.{List, [], _∷_, _++_, List·Memᴰ, List·Memᴰ·head, List·Memᴰ·tail, Memᴰ·append-left, Memᴰ·append-right}
+use mathlib.Core.List.{List, [], _∷_, _++_, List·Memᴰ, List·Memᴰ·head, List·Memᴰ·tail, Memᴰ·append-left}
+use mathlib.Core.List.{Memᴰ·append-right}
 use lib.ListN.{length, take, length-set}
 use lib.Seq.{lt-length-set, getD-set-same, getD-set-other}
 use native.Mathlib.Omega.{arith}
 use Rattle.model.specs.Notation.{tabulate, concatBelow}
 use Rattle.model.specs.Layout.{cell}
 use Rattle.model.specs.Write.{Write, write, writeAll}
-use Rattle.model.proofs.laws.Laws.{Indices, same, other, indices}
+use Rattle.model.proofs.laws.Functions.{Indices, same, other, indices}
 
 -- P holds of every write of the list
 abbrev pub Each : (Write → Type 0) → List Write → Type 0
@@ -28,14 +30,16 @@ pub each-map : (P Q : Write → Type 0) → ((w : Write) → P w → Q w) → (w
 each-map P Q f [] h = tt
 each-map P Q f (w ∷ ws) h = (f w (h .0), each-map P Q f ws (h .1))
 
-pub each-concat : (P : Write → Type 0) (n : ℕ) (f : ℕ → List Write) → ((i : ℕ) → i < n → Each P (f i)) → Each P (concatBelow n f)
+pub each-concat : (P : Write → Type 0) (n : ℕ) (f : ℕ → List Write) → ((i : ℕ) → i < n → Each P (f i))
+    → Each P (concatBelow n f)
 unfolding concatBelow
 each-concat P zero f h = tt
 each-concat P (suc n) f h =
     each-append P (concatBelow n f) (f n) (each-concat P n f (λ i l. h i (omega arith))) (h n (omega arith))
 
 -- a write of the i-th list is one of the lists put together
-pub in-concat : (n : ℕ) (f : ℕ → List Write) (i : ℕ) → i < n → (w : Write) → List·Memᴰ w (f i) → List·Memᴰ w (concatBelow n f)
+pub in-concat : (n : ℕ) (f : ℕ → List Write) (i : ℕ) → i < n → (w : Write) → List·Memᴰ w (f i)
+    → List·Memᴰ w (concatBelow n f)
 unfolding concatBelow
 in-concat zero f i l w m = absurd (omega arith)
 in-concat (suc n) f i l w m = go (indices i n) (λ k. in-concat n f i k w m)
@@ -75,7 +79,8 @@ unfolding cell write
 unwritten st w a h = getD-set-other st (w .cell) a (w .value) 0 h
 
 -- a cell that no write of the list goes to is kept
-pub kept : (st : List ℕ) (ws : List Write) (a : ℕ) → Each (λ w. a ≡ w .cell → ⊥) ws → cell (writeAll st ws) a ≡ cell st a
+pub kept : (st : List ℕ) (ws : List Write) (a : ℕ) → Each (λ w. a ≡ w .cell → ⊥) ws
+    → cell (writeAll st ws) a ≡ cell st a
 unfolding writeAll
 kept st [] a h = refl
 kept st (w ∷ ws) a h = kept (write st w) ws a (h .1) ∙ unwritten st w a (h .0)
@@ -88,7 +93,8 @@ abbrev pub Zeros : List Write → Type 0
 Zeros ws = Each (λ w. w .value ≡ 0) ws
 
 -- under such a list a 0 stays, and a cell that is written becomes 0
-still-zero : (st : List ℕ) (ws : List Write) (a : ℕ) → Zeros ws → a < length st → cell st a ≡ 0 → cell (writeAll st ws) a ≡ 0
+still-zero : (st : List ℕ) (ws : List Write) (a : ℕ) → Zeros ws → a < length st → cell st a ≡ 0
+    → cell (writeAll st ws) a ≡ 0
 unfolding writeAll
 still-zero st [] a z l e = e
 still-zero st (w ∷ ws) a z l e = still-zero (write st w) ws a (z .1) (still-in st w a l) (go (indices a (w .cell)))
@@ -97,7 +103,8 @@ still-zero st (w ∷ ws) a z l e = still-zero (write st w) ws a (z .1) (still-in
     go (same q) = rw q (written st w (rw q at l) ∙ z .0)
     go (other q) = unwritten st w a q ∙ e
 
-pub zeroed : (st : List ℕ) (ws : List Write) (a : ℕ) → Zeros ws → a < length st → List·Memᴰ (zeroInto a) ws → cell (writeAll st ws) a ≡ 0
+pub zeroed : (st : List ℕ) (ws : List Write) (a : ℕ) → Zeros ws → a < length st → List·Memᴰ (zeroInto a) ws
+    → cell (writeAll st ws) a ≡ 0
 unfolding writeAll
 zeroed st (w ∷ ws) a z l (List·Memᴰ·head q) =
     still-zero (write st w) ws a (z .1) (still-in st w a l)

@@ -1,4 +1,5 @@
--- The order of refusals: a step's checks come in document 01's order; of setup and restart, what comes earlier in "1 to 6, then 16" decides.
+-- The order of refusals: a step's checks come in document 01's order; of setup and restart, what comes earlier in "1 to
+-- 6, then 16" decides.
 use Prim.Native.Nat.{ℕ}
 use mathlib.Core.Path.{_≡_, refl}
 use mathlib.Core.Bool.{true}
@@ -8,18 +9,19 @@ use lib.ListN.{length}
 use Rattle.model.specs.declared.Topology.{Topology}
 use Rattle.model.specs.declared.Refusal.{Refusal}
 use Rattle.model.specs.declared.Step.{Step}
-use Rattle.model.specs.declared.Step.the-variants.{Send, Receive, Begin, PhysicalCheckpoint, LogicalCheckpoint, SendMarker, Commit, Abort}
+use Rattle.model.specs.declared.Step.the-variants.{Send, Receive, Begin, PhysicalCheckpoint, LogicalCheckpoint}
+use Rattle.model.specs.declared.Step.the-variants.{SendMarker, Commit, Abort}
 use Rattle.model.specs.Notation.{orElse}
 use Rattle.model.specs.Topology.{sizeChecks, channelChecks, sizeRefusal, topologyRefusal}
 use Rattle.model.specs.State.{GlobalState}
-use Rattle.model.specs.Step.{ownChecks, stepChecks}
+use Rattle.model.specs.Step.{priorChecks, roomChecks, logChecks, ownChecks, stepChecks}
 use Rattle.model.specs.Start.{initializeRefusal, recoverRefusal}
-use Rattle.model.specs.Outcome.{refusalNumber}
 use Rattle.model.specs.Order.{documentOrder, inOrder, checkNumbers}
 
 -- "Order for steps: 15, 6, 8, 12, 13, 10, 14, 9, 11."
-pub steps-in-order : (s : GlobalState) (cells : ℕ) (x : Step) → inOrder (checkNumbers (stepChecks s cells x)) documentOrder ≡ true
-unfolding inOrder checkNumbers documentOrder stepChecks ownChecks refusalNumber
+pub steps-in-order : (s : GlobalState) (cells : ℕ) (x : Step)
+    → inOrder (checkNumbers (stepChecks s cells x)) documentOrder ≡ true
+unfolding inOrder checkNumbers documentOrder stepChecks ownChecks priorChecks roomChecks logChecks
 steps-in-order s cells (Send c b) = refl
 steps-in-order s cells (Receive c) = refl
 steps-in-order s cells Begin = refl
@@ -30,25 +32,28 @@ steps-in-order s cells Commit = refl
 steps-in-order s cells Abort = refl
 
 -- "Setup and restart: 1 to 6, then 16." 1 before 2, and 3 before 4 before 5 on each channel;
-pub sizes-in-order : (T : Topology) → checkNumbers (sizeChecks T) ≡ 1 ∷ 2 ∷ []
-unfolding checkNumbers refusalNumber
-sizes-in-order T = refl
+pub sizes-in-order : (n m : ℕ) → checkNumbers (sizeChecks n m) ≡ 1 ∷ 2 ∷ []
+unfolding checkNumbers
+sizes-in-order n m = refl
 
 pub channel-in-order : (T : Topology) (c : ℕ) → checkNumbers (channelChecks T c) ≡ 3 ∷ 4 ∷ 5 ∷ []
-unfolding checkNumbers refusalNumber
+unfolding checkNumbers
 channel-in-order T c = refl
 
 -- 1 and 2 come before 3 to 5,
-pub sizes-first : (T : Topology) (r : Refusal) → sizeRefusal T ≡ some r → topologyRefusal T ≡ some r
+pub sizes-first : (T : Topology) (r : Refusal) → sizeRefusal (T .processes) (T .channels) ≡ some r
+    → topologyRefusal T ≡ some r
 unfolding topologyRefusal orElse
 sizes-first T r e = rw e refl
 
 -- 1 to 5 before 6,
-pub topology-first : (T : Topology) (cells : ℕ) (r : Refusal) → topologyRefusal T ≡ some r → initializeRefusal T cells ≡ some r
+pub topology-first : (T : Topology) (cells : ℕ) (r : Refusal) → topologyRefusal T ≡ some r
+    → initializeRefusal T cells ≡ some r
 unfolding initializeRefusal orElse
 topology-first T cells r e = rw e refl
 
 -- and 1 to 6 before 16
-pub initialize-first : (T : Topology) (store : List ℕ) (r : Refusal) → initializeRefusal T (length store) ≡ some r → recoverRefusal T store ≡ some r
+pub initialize-first : (T : Topology) (store : List ℕ) (r : Refusal) → initializeRefusal T (length store) ≡ some r
+    → recoverRefusal T store ≡ some r
 unfolding recoverRefusal orElse
 initialize-first T store r e = rw e refl

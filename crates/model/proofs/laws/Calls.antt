@@ -1,0 +1,148 @@
+-- How a call can go. A step is refused, with the state handed in and no writes, or none of its checks fails and it has
+-- its effect (`step-cases`, and back: `accepted-by`). Under a budget, the power is lost within the writes, or it lasts.
+-- An initialize or recover that is ready met no refusal.
+use Prim.Native.Nat.{ℕ, _<_, _≤_}
+use mathlib.Core.Path.{_≡_, refl}
+use mathlib.Core.Bool.{true}
+use mathlib.Core.List.{List, _++_}
+use mathlib.Core.Option.{Option, none, some}
+use lib.ListN.{length, take}
+use lib.Seq.{take-all}
+use lib.Dec.{ltb}
+use borrow.Author.Tests.{ltb-true, ltb-false, le-ltb, not-false}
+use native.Mathlib.Nat.{min-eq-left, min-eq-right}
+use native.Mathlib.Omega.{arith}
+use Rattle.model.specs.declared.Refusal.{Refusal}
+use Rattle.model.specs.declared.Step.{Step}
+use Rattle.model.specs.declared.Outcome.the-variants.{Refused, PowerLost}
+use Rattle.model.specs.declared.Start.the-variants.{Ready}
+use Rattle.model.specs.declared.Start.the-variants as start
+use Rattle.model.specs.Check.{firstRefusal}
+use Rattle.model.specs.Layout.{storeCells}
+use Rattle.model.specs.State.{GlobalState}
+use Rattle.model.specs.Sound.{sound}
+use Rattle.model.specs.Outcome.{accepted}
+use Rattle.model.specs.Write.{Result, Answered, underBudget, writeAll}
+use Rattle.model.specs.Step.{priorChecks, roomChecks, logChecks, ownChecks, stepChecks, quietly, effect, resultOf}
+use Rattle.model.specs.Step.{step, answer}
+use Rattle.model.specs.Start.{startupOr}
+use Rattle.model.proofs.laws.Tests.{true-is-not-false, Tested, holds, fails, test}
+use Rattle.model.proofs.laws.Passing.{Passed, passed, none-fails, passed-both, Prior, prior}
+
+-- a step that nothing turns down
+pub record Accepted (s : GlobalState) (n : ℕ) (x : Step) : Type 0 where
+  pub fit : sound s ≡ true
+  pub cells : storeCells ≤ n
+  pub prior : Prior s x
+  pub room : Passed (roomChecks s x)
+  pub logs : Passed (logChecks s x)
+
+-- A step's two cases.
+pub data Stepped (s : GlobalState) (cells : ℕ) (x : Step) : Type 0 where
+  refused : (r : Refusal) → step s cells x ≡ quietly (Refused r) s → Stepped s cells x
+  passes : Accepted s cells x → step s cells x ≡ effect s x → Stepped s cells x
+
+pub step-cases : (s : GlobalState) (cells : ℕ) (x : Step) → Stepped s cells x
+unfolding stepChecks ownChecks resultOf step
+step-cases s cells x = go (firstRefusal (stepChecks s cells x)) refl
+  where
+    go : (o : Option Refusal) → firstRefusal (stepChecks s cells x) ≡ o → Stepped s cells x
+    go none e =
+        let (sounds, (long, own)) = passed (stepChecks s cells x) e in
+        let (first, rest) = passed-both (priorChecks s x) (roomChecks s x ++ logChecks s x) own in
+        let (room, logs) = passed-both (roomChecks s x) (logChecks s x) rest in
+        passes
+        (record {
+          fit = not-false (sound s) sounds;
+          cells = ltb-false cells storeCells long;
+          prior = prior s x first;
+          room = room;
+          logs = logs;
+        })
+        (rw e)
+    go (some r) e = refused r (rw e)
+
+-- A budget's two cases.
+pub data Powered (budget : ℕ) (s : GlobalState) (store : List ℕ) (r : Result) : Type 0 where
+  lost : budget < length (r .writes)
+      → underBudget budget s store r
+      ≡ record { outcome = PowerLost; made = budget; state = s; store = writeAll store (take budget (r .writes)) }
+      → Powered budget s store r
+  lasts : length (r .writes) ≤ budget
+      → underBudget budget s store r
+      ≡ record { outcome = r .outcome; made = length (r .writes); state = r .state; store = writeAll store (r .writes) }
+      → Powered budget s store r
+
+pub power-cases : (budget : ℕ) (s : GlobalState) (store : List ℕ) (r : Result) → Powered budget s store r
+unfolding underBudget
+power-cases budget s store r = go (test (ltb budget (length (r .writes))))
+  where
+    go : Tested (ltb budget (length (r .writes))) → Powered budget s store r
+    go (holds e) =
+        let l : budget < length (r .writes) = ltb-true budget (length (r .writes)) e in
+        let k : budget ≤ length (r .writes) = omega arith in
+        lost l (rw (e, min-eq-left k))
+    go (fails e) =
+        let k : length (r .writes) ≤ budget = ltb-false budget (length (r .writes)) e in
+        lasts k (rw (e, min-eq-right k, take-all budget (r .writes) k))
+
+-- the answer of a step that has its effect
+abbrev pub answered : GlobalState → Step → List ℕ → Answered
+answered s x store =
+    record {
+      outcome = effect s x .outcome;
+      made = length (effect s x .writes);
+      state = effect s x .state;
+      store = writeAll store (effect s x .writes);
+    }
+
+-- the converse of the cases: a sound state, a long enough store, no check that fails and power that lasts
+pub accepted-by : (s : GlobalState) (x : Step) (store : List ℕ) (budget : ℕ) → sound s ≡ true
+    → storeCells ≤ length store → Passed (ownChecks s x) → length (effect s x .writes) ≤ budget
+    → answer s x store budget ≡ answered s x store
+unfolding answer step stepChecks firstRefusal resultOf underBudget
+accepted-by s x store budget fit cells own power =
+    rw (
+      fit,
+      le-ltb (length store) storeCells cells,
+      none-fails (ownChecks s x) own,
+      le-ltb budget (length (effect s x .writes)) power,
+      min-eq-right power,
+      take-all budget (effect s x .writes) power,
+    )
+
+-- an accepted call was turned down by nothing, and its power lasted
+pub accepted-passes : (s : GlobalState) (x : Step) (store : List ℕ) (budget : ℕ)
+    → accepted (answer s x store budget .outcome) ≡ true
+    → Accepted s (length store) x × (answer s x store budget ≡ answered s x store)
+unfolding answer quietly accepted
+accepted-passes s x store budget ok = go (step-cases s (length store) x)
+  where
+    Found : Type 0
+    Found = Accepted s (length store) x × (underBudget budget s store (step s (length store) x) ≡ answered s x store)
+
+    powered : Accepted s (length store) x → step s (length store) x ≡ effect s x → Powered budget s store (effect s x)
+        → Found
+    powered a e (lost l q) = true-is-not-false ok (rw (e, q))
+    powered a e (lasts l q) = (a, rw e q)
+
+    go : Stepped s (length store) x → Found
+    go (refused r e) = none (power-cases budget s store (quietly (Refused r) s))
+      where
+        none : Powered budget s store (quietly (Refused r) s) → Found
+        none (lost l q) = true-is-not-false ok (rw (e, q))
+        none (lasts l q) = true-is-not-false ok (rw (e, q))
+    go (passes a e) = powered a e (power-cases budget s store (effect s x))
+
+-- an accepted initialize or recover has no refusal; one that is turned down has that refusal and leaves the store
+pub ready : (o : Option Refusal) (s : GlobalState) (after before : List ℕ) → startupOr o s after before .start ≡ Ready
+    → o ≡ none
+unfolding startupOr
+ready none s after before e = refl
+ready (some r) s after before e = cc
+
+pub not-ready : (o : Option Refusal) (s : GlobalState) (after before : List ℕ) {r : Refusal}
+    → startupOr o s after before .start ≡ start.Refused r → (o ≡ some r) × (startupOr o s after before .store ≡ before)
+unfolding startupOr
+not-ready none s after before e = (cc, cc)
+not-ready (some x) s after before e = (cc, refl)

@@ -1,0 +1,126 @@
+-- What every step does alike: its effect is accepted, the topology stays, and the line is raised by a commit alone.
+use Prim.Native.Nat.{ℕ, _+_}
+use mathlib.Core.Path.{_≡_, refl, sym, subst}
+use mathlib.Core.Bool.{true, false, cond}
+use mathlib.Core.List.{List, [], _∷_}
+use lib.ListN.{length}
+use lib.Dec.{ltb}
+use native.Mathlib.Omega.{arith}
+use Rattle.model.specs.declared.Entry.{Entry}
+use Rattle.model.specs.declared.Entry.the-variants.{Message, Marker}
+use Rattle.model.specs.declared.Step.{Step}
+use Rattle.model.specs.declared.Step.the-variants.{Send, Receive, Begin, PhysicalCheckpoint}
+use Rattle.model.specs.declared.Step.the-variants.{LogicalCheckpoint, SendMarker, Commit, Abort}
+use Rattle.model.specs.declared.Outcome.{Outcome}
+use Rattle.model.specs.declared.Outcome.the-variants.{Refused, PowerLost}
+use Rattle.model.specs.declared.Refusal.{Refusal}
+use Rattle.model.specs.Topology.{receiver}
+use Rattle.model.specs.State.{GlobalState, raisedAll}
+use Rattle.model.specs.Change.{withRound, withWord, withTag, withChannel, withProgress, withCounts, inPhase}
+use Rattle.model.specs.Change.{setEntries}
+use Rattle.model.specs.Change.{enterBody, logicalCheckpoint, close, recordSent, endRound}
+use Rattle.model.specs.Outcome.{accepted}
+use Rattle.model.specs.Write.{Answered, underBudget}
+use Rattle.model.specs.Receive.{Reaction}
+use Rattle.model.specs.Step.{quietly, nextLine, reaction, react, receivedOutcome, receive, afterPhysical, effect}
+use Rattle.model.specs.Step.{step, answer}
+use Rattle.model.specs.Run.{isCommit, countCommit}
+use Rattle.model.proofs.laws.Tests.{either}
+use Rattle.model.proofs.laws.Calls.{Stepped, refused, passes, step-cases, Powered, lost, lasts, power-cases}
+
+pub received-accepted : (e : Entry) → accepted (receivedOutcome e) ≡ true
+unfolding accepted receivedOutcome
+received-accepted (Message b t) = refl
+received-accepted Marker = refl
+
+pub effect-accepted : (s : GlobalState) (x : Step) → accepted (effect s x .outcome) ≡ true
+unfolding effect quietly accepted receive
+effect-accepted s (Send c b) = refl
+effect-accepted s (Receive c) = go (s .channel c)
+  where
+    go : (es : List Entry) → accepted (receive s c es .outcome) ≡ true
+    go [] = refl
+    go (e ∷ es) = received-accepted e
+effect-accepted s Begin = refl
+effect-accepted s (PhysicalCheckpoint p) = refl
+effect-accepted s (LogicalCheckpoint p) = refl
+effect-accepted s (SendMarker c) = refl
+effect-accepted s Commit = refl
+effect-accepted s Abort = refl
+
+-- x has the topology of s, and this line
+pub record Follows (s x : GlobalState) (k : ℕ) : Type 0 where
+  pub topology : x .topology ≡ s .topology
+  pub line : x .round .line ≡ k
+
+react-follows : (x : Reaction) (c r : ℕ) (s : GlobalState) → Follows s (react x c r s) (s .round .line)
+unfolding react close logicalCheckpoint withTag withProgress withCounts
+react-follows x c r s = either Kept (x .closes) _ _ (closed saved) saved
+  where
+    Kept : GlobalState → Type 0
+    Kept y = Follows s y (s .round .line)
+
+    counted : GlobalState
+    counted = withCounts (raisedAll (x .logs) (s .counts)) s
+
+    saved : Kept (cond (x .logicalFirst) (logicalCheckpoint r counted) counted)
+    saved =
+        either Kept (x .logicalFirst) _ _ (record { topology = refl; line = refl })
+        (record { topology = refl; line = refl })
+
+    closed : {y : GlobalState} → Kept y → Kept (close c y)
+    closed h = record { topology = h .topology; line = h .line }
+
+receive-follows : (s : GlobalState) (c : ℕ) (es : List Entry) → Follows s (receive s c es .state) (s .round .line)
+unfolding receive quietly enterBody setEntries withChannel withWord
+receive-follows s c [] = record { topology = refl; line = refl }
+receive-follows s c (Message b t ∷ es) =
+    let h = react-follows (reaction s c (Message b t)) c (receiver (s .topology) c) s in
+    record { topology = h .topology; line = h .line }
+receive-follows s c (Marker ∷ es) =
+    let h = react-follows (reaction s c Marker) c (receiver (s .topology) c) s in
+    record { topology = h .topology; line = h .line }
+
+effect-follows : (s : GlobalState) (x : Step)
+    → Follows s (effect s x .state) (countCommit x (effect s x .outcome) (s .round .line))
+unfolding effect quietly nextLine afterPhysical inPhase setEntries withChannel withRound withTag withProgress withCounts
+    logicalCheckpoint recordSent endRound countCommit isCommit accepted
+effect-follows s (Send c b) = record { topology = refl; line = refl }
+effect-follows s (Receive c) = receive-follows s c (s .channel c)
+effect-follows s Begin = record { topology = refl; line = refl }
+effect-follows s (PhysicalCheckpoint p) =
+    either (λ (y : GlobalState). Follows s y (s .round .line)) (ltb (p + 1) (s .topology .processes)) _ _
+    (record { topology = refl; line = refl }) (record { topology = refl; line = refl })
+effect-follows s (LogicalCheckpoint p) = record { topology = refl; line = refl }
+effect-follows s (SendMarker c) = record { topology = refl; line = refl }
+effect-follows s Commit = record { topology = refl; line = refl }
+effect-follows s Abort = record { topology = refl; line = refl }
+
+-- a call that is not accepted is no commit
+no-commit : (x : Step) (o : Outcome) (n : ℕ) → accepted o ≡ false → countCommit x o n ≡ n
+unfolding countCommit
+no-commit x o n e = either (λ (m : ℕ). m ≡ n) (isCommit x) _ _ (rw e) refl
+
+pub answer-follows : (s : GlobalState) (x : Step) (store : List ℕ) (budget : ℕ)
+    → Follows s (answer s x store budget .state) (countCommit x (answer s x store budget .outcome) (s .round .line))
+unfolding answer accepted quietly
+answer-follows s x store budget = go (step-cases s (length store) x)
+  where
+    After : Answered → Type 0
+    After a = Follows s (a .state) (countCommit x (a .outcome) (s .round .line))
+
+    stays : (o : Outcome) → accepted o ≡ false → Follows s s (countCommit x o (s .round .line))
+    stays o e = record { topology = refl; line = sym (no-commit x o (s .round .line) e) }
+
+    refuses : (r : Refusal) → Powered budget s store (quietly (Refused r) s)
+        → After (underBudget budget s store (quietly (Refused r) s))
+    refuses r (lost l q) = absurd (omega arith)
+    refuses r (lasts l q) = subst After (sym q) (stays (Refused r) refl)
+
+    does : Powered budget s store (effect s x) → After (underBudget budget s store (effect s x))
+    does (lost l q) = subst After (sym q) (stays PowerLost refl)
+    does (lasts l q) = subst After (sym q) (effect-follows s x)
+
+    go : Stepped s (length store) x → After (underBudget budget s store (step s (length store) x))
+    go (refused r e) = rw e (refuses r (power-cases budget s store (quietly (Refused r) s)))
+    go (passes a e) = rw e (does (power-cases budget s store (effect s x)))
