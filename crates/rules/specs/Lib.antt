@@ -1,0 +1,2 @@
+-- What the functions of rules promise in terms of the model's definitions.
+pub mod Reacting

@@ -1,0 +1,82 @@
+// What an entry does to its receiver as it is received (document 01's take), decided here and nowhere else.
+use model::Entry;
+use model::Outcome;
+use model::Phase;
+ghost use mathlib.Core.Path.{_≡_};
+ghost use Rattle.model.specs.Channel.{bodyOf};
+ghost use Rattle.model.specs.Step.{receivedOutcome};
+ghost use Rattle.rules.specs.Reacting.{Reacts, logging};
+
+// Whether the receiver gets its logical checkpoint first (is marked), whether the channel is closed, and the logs that
+// the body goes into, in this order. specs/Reacting.antt has its meaning.
+pub struct Reaction {
+    pub logical_first: bool,
+    pub closes: bool,
+    pub channel_log: bool,
+    pub message_log: bool,
+}
+
+// No logical checkpoint, and the channel stays open: the message log at most.
+fn logs(needed: bool) -> Reaction
+    ensures { λ r. ⌜ r ≡ logging needed ⌝ }
+{
+    Reaction {
+        logical_first: false,
+        closes: false,
+        channel_log: false,
+        message_log: needed,
+    }
+}
+
+// What an entry does to a receiver, which may have its logical checkpoint and has this tag.
+pub fn react(phase: Phase, receiver: u8, logical: bool, tag: bool, e: Entry) -> Reaction
+    ensures { λ r. ⌜ Reacts phase receiver logical tag e r ⌝ }
+{
+    match e {
+        Entry::Message { body: _, tag: sent } => match phase {
+            Phase::Idle => logs(false),
+            Phase::Physical(next) => logs(receiver < next),
+            Phase::Logical => {
+                if sent == tag {
+                    return logs(!logical);
+                }
+                Reaction {
+                    logical_first: !logical,
+                    closes: false,
+                    channel_log: logical,
+                    message_log: false,
+                }
+            }
+        },
+        Entry::Marker => match phase {
+            Phase::Idle => logs(false),
+            Phase::Physical(_) => logs(false),
+            Phase::Logical => Reaction {
+                logical_first: !logical,
+                closes: true,
+                channel_log: false,
+                message_log: false,
+            },
+        },
+    }
+}
+
+// The message's body; a marker has none.
+pub fn body(e: Entry) -> u32
+    ensures { λ r. ⌜ r ≡ bodyOf e ⌝ }
+{
+    match e {
+        Entry::Message { body, tag: _ } => body,
+        Entry::Marker => 0,
+    }
+}
+
+// What receiving it answers.
+pub fn outcome(e: Entry) -> Outcome
+    ensures { λ r. ⌜ r ≡ receivedOutcome e ⌝ }
+{
+    match e {
+        Entry::Message { body, tag: _ } => Outcome::Received(body),
+        Entry::Marker => Outcome::ReceivedMarker,
+    }
+}

@@ -1,0 +1,79 @@
+// The soundness of a state: one that is not sound is refused with 15.
+use crate::channel;
+use crate::layout;
+use crate::phase;
+use crate::topology;
+use model::Phase;
+use model::Round;
+use model::State;
+use model::Topology;
+use model::Verdict;
+ghost use mathlib.Core.Path.{_≡_};
+ghost use Prim.Native.Nat.{_≤_};
+ghost use lib.ListN.{length, getD};
+ghost use lib.Dec.{leb};
+ghost use Rattle.model.specs.Notation.{allBelow};
+ghost use Rattle.model.specs.State.{view};
+ghost use Rattle.model.specs.Sound.{phaseSound, lineSound, sound};
+
+// Whether each of the first n counts is at most the limit: the logs of the topology's processes, or of its channels.
+fn at_most(counts: &[u8], n: u8, limit: u8) -> bool
+    requires { ⌜ n ≤ length (now counts) ⌝ }
+    ensures { λ r. ⌜ r ≡ allBelow n (λ i. leb (getD (now (counts .entry)) i 0) limit) ⌝ }
+{
+    let mut i: usize = 0;
+    while i < n as usize {
+        if limit < counts[i] {
+            return false;
+        }
+        i += 1;
+    }
+    true
+}
+
+// Whether the next process to have its physical checkpoint, if any, is in the topology.
+fn phase_sound(t: Topology, phase: Phase) -> bool
+    ensures { λ r. ⌜ r ≡ phaseSound t phase ⌝ }
+{
+    match phase {
+        Phase::Idle => true,
+        Phase::Physical(next) => next < t.processes,
+        Phase::Logical => true,
+    }
+}
+
+// Whether the round is idle if its line is the last.
+fn line_sound(round: Round) -> bool
+    ensures { λ r. ⌜ r ≡ lineSound round ⌝ }
+{
+    let phase = round.phase;
+    phase::is_idle(phase) || round.line != phase::LAST_LINE
+}
+
+// Whether a state, any whatever, is sound. The tests stand in the order of the definition's clauses.
+pub fn sound(s: State) -> bool
+    ensures { λ r. ⌜ r ≡ sound (view s) ⌝ }
+{
+    let t = s.topology;
+    let Verdict::Pass = topology::check(t) else {
+        return false;
+    };
+    let mut c: usize = 0;
+    while c < t.channels as usize {
+        let channel = s.channels[c];
+        if channel::ROOM < channel.count {
+            return false;
+        }
+        c += 1;
+    }
+    let counts = s.counts;
+    if !at_most(&counts.messages, t.processes, layout::MESSAGE_PLACES) {
+        return false;
+    }
+    if !at_most(&counts.channels, t.channels, layout::CHANNEL_PLACES) {
+        return false;
+    }
+    let round = s.round;
+    let phase = round.phase;
+    phase_sound(t, phase) && line_sound(round)
+}
