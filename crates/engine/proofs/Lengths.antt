@@ -1,5 +1,5 @@
--- The lengths of those arrays of a state that steps write into. They come with the struct: `c .good` of a proof has them for each state that the
--- function was given.
+-- The lengths of those arrays of a state that steps write into. They come with the struct: `c .good` of a proof has
+-- them for each state that the function was given.
 use mathlib.Core.Path.{_≡_}
 use mathlib.Core.List.{List}
 use lib.ListN.{length}
@@ -7,25 +7,26 @@ use mir.Val.{Val}
 use denote.Laws.{Is}
 use denote.Struct.Declared.{row}
 use Rattle.model.specs.declared.State.{State}
+use Rattle.model.specs.Topology.{processLimit, channelLimit}
 use Rattle.model.proofs.State.{the-type}
-use Rattle.engine.proofs.Views.{length-of}
+use Rattle.model.proofs.laws.Functions.{length-of}
 
 pub record Lengths (s : State) : Type 0 where
-  pub words : length (s .words) ≡ 16
-  pub tags : length (s .tags) ≡ 16
-  pub channels : length (s .channels) ≡ 64
-  pub checkpointed : length (s .flags .checkpointed) ≡ 16
-  pub closed : length (s .flags .closed) ≡ 64
-  pub sent : length (s .flags .sent) ≡ 64
+  pub words : length (s .words) ≡ processLimit
+  pub tags : length (s .tags) ≡ processLimit
+  pub channels : length (s .channels) ≡ channelLimit
+  pub logical : length (s .flags .logical) ≡ processLimit
+  pub closed : length (s .flags .closed) ≡ channelLimit
+  pub sent : length (s .flags .sent) ≡ channelLimit
 
 pub lengths : (s : State) (v : List Val) → Is (row the-type) s v → Lengths s
 lengths s v g =
     let flags = g .1 .1 .1 .1 .1 .1 .1 .0 in
     record {
-      words = length-of _ (s .words) 16 (g .1 .1 .1 .1 .0 .1 .0 .1);
-      tags = length-of _ (s .tags) 16 (g .1 .1 .1 .1 .1 .0 .1 .0 .1);
-      channels = length-of _ (s .channels) 64 (g .1 .1 .1 .1 .1 .1 .0 .1 .0 .1);
-      checkpointed = length-of _ (s .flags .checkpointed) 16 (flags .1 .1 .0 .1 .0 .1);
-      closed = length-of _ (s .flags .closed) 64 (flags .1 .1 .1 .0 .1 .0 .1);
-      sent = length-of _ (s .flags .sent) 64 (flags .1 .1 .1 .1 .0 .1 .0 .1);
+      words = length-of _ (s .words) processLimit (g .1 .1 .1 .1 .0 .1 .0 .1);
+      tags = length-of _ (s .tags) processLimit (g .1 .1 .1 .1 .1 .0 .1 .0 .1);
+      channels = length-of _ (s .channels) channelLimit (g .1 .1 .1 .1 .1 .1 .0 .1 .0 .1);
+      logical = length-of _ (s .flags .logical) processLimit (flags .1 .1 .0 .1 .0 .1);
+      closed = length-of _ (s .flags .closed) channelLimit (flags .1 .1 .1 .0 .1 .0 .1);
+      sent = length-of _ (s .flags .sent) channelLimit (flags .1 .1 .1 .1 .0 .1 .0 .1);
     }

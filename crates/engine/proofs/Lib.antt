@@ -1,25 +1,12 @@
--- Laws that the proofs of several functions cite, and the cases of the steps.
-pub mod Channels
-pub mod Lists
-pub mod Logs
+-- Laws that the proofs of several functions cite: how a state of the code is seen after a write, what a sound state
+-- says of the code's numbers, and how the promises are met.
 pub mod Stores
-pub mod TopologyLaws
-pub mod SoundLaws
 pub mod Views
-pub mod Promises
 pub mod Lengths
 pub mod Bounds
-pub mod StoreBounds
-pub mod SendCases
-pub mod LogicalCheckpointCases
-pub mod SendMarkerCases
-pub mod AbortCases
-pub mod BeginCases
-pub mod PhysicalCheckpointCases
-pub mod CommitCases
-pub mod Layouts
-pub mod Recovers
-pub mod Starts
-pub mod ReceiveFacts
-pub mod Attempts
-pub mod ReceiveCases
+pub mod Promises
+pub mod Aborting
+pub mod Clearing
+pub mod Receptions
+pub mod ReceiveMeets
+pub mod Recovering

@@ -1,8 +1,10 @@
--- How the promises of a step's own part become the promise of the step.
+-- How a step's answers meet its promises: those of its own part, by what its own checks say, and from them those of the
+-- whole step.
 use Prim.Native.Nat.{ℕ, _<_, _≤_}
 use mathlib.Core.Path.{_≡_, refl, sym, ap, subst, _∙_}
 use mathlib.Core.Bool.{false, true}
 use mathlib.Core.List.{List, []}
+use mathlib.Core.Option.{none, some}
 use lib.ListN.{length, take}
 use borrow.Author.Tests.{le-ltb, lt-ltb}
 use native.Mathlib.Omega.{arith}
@@ -11,84 +13,149 @@ use lib.Seq.{take-nil}
 use Rattle.model.specs.declared.State.{State}
 use Rattle.model.specs.declared.Step.{Step}
 use Rattle.model.specs.declared.Answer.{Answer}
-use Rattle.model.specs.declared.Outcome.{Outcome}
-use Rattle.model.specs.declared.Outcome.the-variants.{Refused, PowerLost}
+use Rattle.model.specs.declared.Outcome.the-variants.{Done, Refused, PowerLost}
 use Rattle.model.specs.declared.Refusal.{Refusal}
 use Rattle.model.specs.declared.Refusal.the-variants.{Unsound, ShortStore}
-use Rattle.model.specs.Notation.{firstRefusal}
+use Rattle.model.specs.Check.{firstRefusal}
 use Rattle.model.specs.Layout.{storeCells}
 use Rattle.model.specs.State.{GlobalState, view}
 use Rattle.model.specs.Sound.{sound}
 use Rattle.model.specs.Write.{Result, Answered, underBudget, writeAll}
-use Rattle.model.specs.Step.{step, stepChecks, resultOf, answer, quietly}
+use Rattle.model.specs.Step.{step, ownChecks, stepChecks, resultOf, effect, answer, quietly}
 use Rattle.model.specs.Outcome.{accepted}
-use Rattle.model.proofs.laws.Laws.{true-is-not-false}
+use Rattle.model.proofs.laws.Tests.{true-is-not-false}
 use Rattle.engine.specs.Answers.{Meets, Answers, ownResult, Performs, Quiet}
 
+-- the state handed in, refused
+abbrev pub refusedBy : Refusal → State → Answer
+refusedBy r s = record { outcome = Refused r; made = 0; state = s }
+
 -- a result without writes, under any budget
-pub unbudgeted : (budget : ℕ) (s : GlobalState) (store : List ℕ) (r : Result) → r .writes ≡ [] → underBudget budget s store r ≡ record { outcome = r .outcome; made = 0; state = r .state; store = store }
+pub unbudgeted : (budget : ℕ) (s : GlobalState) (store : List ℕ) (r : Result) → r .writes ≡ []
+    → underBudget budget s store r ≡ record { outcome = r .outcome; made = 0; state = r .state; store = store }
 unfolding underBudget writeAll
 unbudgeted budget s store r e = rw (e, le-ltb budget 0 (omega arith), min-zero budget, take-nil budget)
 
-pub quiet-meets : (s : State) (x : Step) (r : Answer) (store : List ℕ) (budget : ℕ) → Quiet s x r → Performs s x store budget r store
-quiet-meets s x r store budget q =
-    subst (λ (a : Answered). Meets s a r store) (sym (unbudgeted budget (view s) store (ownResult (view s) x) (q .writes)))
-    (record { outcome = q .outcome; made = q .made; state = q .state; kept = q .kept; store = refl })
+module _ (s : State) (x : Step) where
+  -- a step's own part, refused and accepted
+  own-refused : (r : Refusal) → firstRefusal (ownChecks (view s) x) ≡ some r
+      → ownResult (view s) x ≡ quietly (Refused r) (view s)
+  unfolding ownResult resultOf
+  own-refused r e = rw e
 
--- behind refusals 15 and 6 the step is its own part
-pub own-step : (s : State) (x : Step) (store : List ℕ) → sound (view s) ≡ true → storeCells ≤ length store → step (view s) (length store) x ≡ ownResult (view s) x
-unfolding step stepChecks firstRefusal ownResult
-own-step s x store p q = rw (p, le-ltb (length store) storeCells q)
+  own-done : firstRefusal (ownChecks (view s) x) ≡ none → ownResult (view s) x ≡ effect (view s) x
+  unfolding ownResult resultOf
+  own-done e = rw e
 
-pub performs-answers : (s : State) (x : Step) (before : List ℕ) (budget : ℕ) (r : Answer) (after : List ℕ) → sound (view s) ≡ true → storeCells ≤ length before → Performs s x before budget r after → Answers s x before budget r after
-unfolding answer
-performs-answers s x before budget r after p q m = subst (λ (y : Result). Meets s (underBudget budget (view s) before y) r after) (sym (own-step s x before p q)) m
+  -- answers without writes
+  pub quiet-refused : (r : Refusal) → firstRefusal (ownChecks (view s) x) ≡ some r → Quiet s x (refusedBy r s)
+  unfolding quietly
+  quiet-refused r e =
+      let own = own-refused r e in
+      record {
+        outcome = ap (λ (y : Result). y .outcome) (sym own);
+        made = refl;
+        state = ap (λ (y : Result). y .state) (sym own);
+        kept = λ _. refl;
+        writes = ap (λ (y : Result). y .writes) own;
+      }
 
--- Answers without writes: a refusal of the state handed in, and an accepted step with the state next.
-pub quiet-refused : (s : State) (x : Step) (r : Refusal) → ownResult (view s) x ≡ quietly (Refused r) (view s) → Quiet s x (record { outcome = Refused r; made = 0; state = s })
-unfolding quietly
-quiet-refused s x r e = record { outcome = ap (λ (y : Result). y .outcome) (sym e); made = refl; state = ap (λ (y : Result). y .state) (sym e); kept = λ _. refl; writes = ap (λ (y : Result). y .writes) e }
+  pub quiet-done : firstRefusal (ownChecks (view s) x) ≡ none → (seen : GlobalState)
+      → effect (view s) x ≡ quietly Done seen → (next : State) → view next ≡ seen
+      → Quiet s x (record { outcome = Done; made = 0; state = next })
+  unfolding quietly accepted
+  quiet-done e seen f next v =
+      let own : ownResult (view s) x ≡ quietly Done seen = own-done e ∙ f in
+      record {
+        outcome = ap (λ (y : Result). y .outcome) (sym own);
+        made = refl;
+        state = v ∙ ap (λ (y : Result). y .state) (sym own);
+        kept = λ never. true-is-not-false refl never;
+        writes = ap (λ (y : Result). y .writes) own;
+      }
 
-pub quiet-done : (s : State) (x : Step) (o : Outcome) (next : State) (seen : GlobalState) → ownResult (view s) x ≡ quietly o seen → view next ≡ seen → accepted o ≡ true → Quiet s x (record { outcome = o; made = 0; state = next })
-unfolding quietly
-quiet-done s x o next seen e v a = record { outcome = ap (λ (y : Result). y .outcome) (sym e); made = refl; state = v ∙ ap (λ (y : Result). y .state) (sym e); kept = λ f. true-is-not-false a f; writes = ap (λ (y : Result). y .writes) e }
+  -- answers of a step that writes: refused, with the power lost, and done
+  module _ (before : List ℕ) (budget : ℕ) where
+    pub quiet-performs : (r : Answer) → Quiet s x r → Performs s x before budget r before
+    quiet-performs r q =
+        subst (λ (a : Answered). Meets s a r before)
+        (sym (unbudgeted budget (view s) before (ownResult (view s) x) (q .writes)))
+        (record { outcome = q .outcome; made = q .made; state = q .state; kept = q .kept; store = refl })
 
--- Answers of a step that writes: refused, with the power lost, and done. result is what the definition has.
+    pub performs-refused : (r : Refusal) → firstRefusal (ownChecks (view s) x) ≡ some r
+        → Performs s x before budget (refusedBy r s) before
+    performs-refused r e = quiet-performs _ (quiet-refused r e)
+
+    module _ (e : firstRefusal (ownChecks (view s) x) ≡ none) (after : List ℕ)
+        (written : after ≡ writeAll before (take budget (effect (view s) x .writes))) where
+      abbrev done : Answer → Type 0
+      done r = Meets s (underBudget budget (view s) before (effect (view s) x)) r after
+
+      own : (r : Answer) → done r → Performs s x before budget r after
+      own r m = subst (λ (y : Result). Meets s (underBudget budget (view s) before y) r after) (sym (own-done e)) m
+
+      pub performs-lost : budget < length (effect (view s) x .writes)
+          → Performs s x before budget (record { outcome = PowerLost; made = budget; state = s }) after
+      unfolding underBudget accepted
+      performs-lost l =
+          own _ (record {
+            outcome = rw (lt-ltb budget (length (effect (view s) x .writes)) l);
+            made = sym (min-eq-left (omega arith));
+            state = rw (lt-ltb budget (length (effect (view s) x .writes)) l);
+            kept = λ _. refl;
+            store = written;
+          })
+
+      pub performs-done : length (effect (view s) x .writes) ≤ budget → (made : ℕ)
+          → made ≡ length (effect (view s) x .writes) → effect (view s) x .outcome ≡ Done → (next : State)
+          → view next ≡ effect (view s) x .state
+          → Performs s x before budget (record { outcome = Done; made = made; state = next }) after
+      unfolding underBudget accepted
+      performs-done l made m o next v =
+          own _ (record {
+            outcome = rw (le-ltb budget (length (effect (view s) x .writes)) l) (sym o);
+            made = m ∙ sym (min-eq-right l);
+            state = v ∙ rw (le-ltb budget (length (effect (view s) x .writes)) l);
+            kept = λ never. true-is-not-false refl never;
+            store = written;
+          })
+
+-- The whole step: 15 and 6 before everything else, and behind them its own part.
 module _ (s : State) (x : Step) (before : List ℕ) (budget : ℕ) where
-  pub performs-refused : (r : Refusal) → ownResult (view s) x ≡ quietly (Refused r) (view s) → Performs s x before budget (record { outcome = Refused r; made = 0; state = s }) before
-  performs-refused r e = quiet-meets s x _ before budget (quiet-refused s x r e)
+  abbrev found : Result → Answer → List ℕ → Type 0
+  found y r after = Meets s (underBudget budget (view s) before y) r after
 
-  module _ (result : Result) (e : ownResult (view s) x ≡ result) (after : List ℕ) (written : after ≡ writeAll before (take budget (result .writes))) where
-    pub performs-lost : budget < length (result .writes) → Performs s x before budget (record { outcome = PowerLost; made = budget; state = s }) after
-    unfolding underBudget accepted
-    performs-lost l =
-        subst (λ (y : Result). Performs-of y) (sym e)
-        (record { outcome = rw (lt-ltb budget (length (result .writes)) l); made = sym (min-eq-left (omega arith)); state = rw (lt-ltb budget (length (result .writes)) l); kept = λ _. refl; store = written })
-      where
-        Performs-of : Result → Type 0
-        Performs-of y = Meets s (underBudget budget (view s) before y) (record { outcome = PowerLost; made = budget; state = s }) after
+  refused : (r : Refusal) → step (view s) (length before) x ≡ quietly (Refused r) (view s)
+      → Answers s x before budget (refusedBy r s) before
+  unfolding answer quietly
+  refused r e =
+      subst (λ (y : Result). found y (refusedBy r s) before) (sym e)
+      (subst (λ (a : Answered). Meets s a (refusedBy r s) before)
+      (sym (unbudgeted budget (view s) before (quietly (Refused r) (view s)) refl))
+      (record { outcome = refl; made = refl; state = refl; kept = λ _. refl; store = refl }))
 
-    pub performs-done : length (result .writes) ≤ budget → (made : ℕ) (next : State) → made ≡ length (result .writes) → view next ≡ result .state → accepted (result .outcome) ≡ true → Performs s x before budget (record { outcome = result .outcome; made = made; state = next }) after
-    unfolding underBudget
-    performs-done l made next m v a =
-        subst (λ (y : Result). Performs-of y) (sym e)
-        (record { outcome = rw (le-ltb budget (length (result .writes)) l); made = m ∙ sym (min-eq-right l); state = v ∙ rw (le-ltb budget (length (result .writes)) l); kept = λ f. true-is-not-false a f; store = written })
-      where
-        Performs-of : Result → Type 0
-        Performs-of y = Meets s (underBudget budget (view s) before y) (record { outcome = result .outcome; made = made; state = next }) after
+  unsound : sound (view s) ≡ false → step (view s) (length before) x ≡ quietly (Refused Unsound) (view s)
+  unfolding step stepChecks firstRefusal resultOf
+  unsound e = rw e
 
--- Answers of the whole step: a refusal with the state handed in, and 15 and 6 before everything else.
-pub answers-refused : (s : State) (x : Step) (before : List ℕ) (budget : ℕ) (r : Refusal) → step (view s) (length before) x ≡ quietly (Refused r) (view s) → Answers s x before budget (record { outcome = Refused r; made = 0; state = s }) before
-unfolding answer quietly
-answers-refused s x before budget r e =
-    subst (λ (y : Result). Meets s (underBudget budget (view s) before y) (record { outcome = Refused r; made = 0; state = s }) before) (sym e)
-    (subst (λ (a : Answered). Meets s a (record { outcome = Refused r; made = 0; state = s }) before) (sym (unbudgeted budget (view s) before (quietly (Refused r) (view s)) refl))
-    (record { outcome = refl; made = refl; state = refl; kept = λ _. refl; store = refl }))
+  short : sound (view s) ≡ true → length before < storeCells
+      → step (view s) (length before) x ≡ quietly (Refused ShortStore) (view s)
+  unfolding step stepChecks firstRefusal resultOf
+  short e l = rw (e, lt-ltb (length before) storeCells l)
 
-pub step-unsound : (s : State) (x : Step) (cells : ℕ) → sound (view s) ≡ false → step (view s) cells x ≡ quietly (Refused Unsound) (view s)
-unfolding step stepChecks firstRefusal resultOf
-step-unsound s x cells e = rw e
+  own-step : sound (view s) ≡ true → storeCells ≤ length before
+      → step (view s) (length before) x ≡ ownResult (view s) x
+  unfolding step stepChecks firstRefusal ownResult
+  own-step e l = rw (e, le-ltb (length before) storeCells l)
 
-pub step-short : (s : State) (x : Step) (cells : ℕ) → sound (view s) ≡ true → cells < storeCells → step (view s) cells x ≡ quietly (Refused ShortStore) (view s)
-unfolding step stepChecks firstRefusal resultOf
-step-short s x cells e l = rw (e, lt-ltb cells storeCells l)
+  pub step-unsound : sound (view s) ≡ false → Answers s x before budget (refusedBy Unsound s) before
+  step-unsound e = refused Unsound (unsound e)
+
+  pub step-short : sound (view s) ≡ true → length before < storeCells
+      → Answers s x before budget (refusedBy ShortStore s) before
+  step-short e l = refused ShortStore (short e l)
+
+  pub step-own : sound (view s) ≡ true → storeCells ≤ length before → (r : Answer) (after : List ℕ)
+      → Performs s x before budget r after → Answers s x before budget r after
+  unfolding answer
+  step-own e l r after m = subst (λ (y : Result). found y r after) (sym (own-step e l)) m

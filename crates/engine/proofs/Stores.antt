@@ -11,7 +11,7 @@ use Rattle.model.proofs.store.Writes.{length-writeAll}
 use Rattle.engine.specs.Spent.{Spent}
 
 -- what lasts for xs and then ys: xs first, and ys with what is left
-pub writeAll-append : (st : List ℕ) (b : ℕ) (xs ys : List Write)
+writeAll-append : (st : List ℕ) (b : ℕ) (xs ys : List Write)
     → writeAll st (take b (xs ++ ys)) ≡ writeAll (writeAll st (take b xs)) (take (b - length xs) ys)
 unfolding writeAll
 writeAll-append st b [] ys = simp (unary-clauses, take-nil)
@@ -28,16 +28,17 @@ unfolding writeAll
 one-spent st zero w l = absurd (omega arith)
 one-spent st (suc b) w l = record { store = ap (writeAll (write st w)) (sym (take-nil b)); left = refl }
 
-pub spent-then : {st st′ st″ : List ℕ} {b b′ b″ : ℕ} {xs ys : List Write} → Spent st b xs st′ b′ → Spent st′ b′ ys st″ b″ → Spent st b (xs ++ ys) st″ b″
-spent-then {st} {st′} {st″} {b} {b′} {b″} {xs} {ys} p q =
-    record {
-      store = q .store ∙ rw (p .store, p .left) (sym (writeAll-append st b xs ys));
-      left = omega (arith, length-append xs ys, p .left, q .left);
-    }
+module _ {st st′ : List ℕ} {b b′ : ℕ} {xs : List Write} (p : Spent st b xs st′ b′) where
+  pub spent-then : {st″ : List ℕ} {b″ : ℕ} {ys : List Write} → Spent st′ b′ ys st″ b″ → Spent st b (xs ++ ys) st″ b″
+  spent-then {st″} {b″} {ys} q =
+      record {
+        store = q .store ∙ rw (p .store, p .left) (sym (writeAll-append st b xs ys));
+        left = omega (arith, length-append xs ys, p .left, q .left);
+      }
 
-pub spent-length : {st st′ : List ℕ} {b b′ : ℕ} {ws : List Write} → Spent st b ws st′ b′ → length st′ ≡ length st
-spent-length {st} {st′} {b} {b′} {ws} p = rw (p .store) (length-writeAll st (take b ws))
+  pub spent-length : length st′ ≡ length st
+  spent-length = rw (p .store) (length-writeAll st (take b xs))
 
--- a budget that lasts
-pub all-spent : {st st′ : List ℕ} {b b′ : ℕ} {ws : List Write} → Spent st b ws st′ b′ → length ws ≤ b → st′ ≡ writeAll st ws
-all-spent {st} {b} {ws} p l = p .store ∙ ap (writeAll st) (take-all b ws l)
+  -- a budget that lasts
+  pub all-spent : length xs ≤ b → st′ ≡ writeAll st xs
+  all-spent l = p .store ∙ ap (writeAll st) (take-all b xs l)

@@ -2,11 +2,22 @@
 use Prim.Native.Nat.{ℕ}
 use mathlib.Core.Path.{_≡_}
 use mathlib.Core.List.{List}
+use lib.ListN.{getD}
+use Rattle.model.specs.declared.Channel.{Channel}
+use Rattle.model.specs.declared.Entry.{Entry}
 use Rattle.model.specs.declared.Started.{Started}
-use Rattle.model.specs.State.{view}
-use Rattle.model.specs.Start.{Begun}
+use Rattle.model.specs.Channel.{entries}
+use Rattle.model.specs.State.{view, emptyChannel}
+use Rattle.model.specs.Start.{Startup}
 
-pub record Begins (b : Begun) (r : Started) (after : List ℕ) : Type 0 where
+pub record Starts (b : Startup) (r : Started) (after : List ℕ) : Type 0 where
   pub start : r .start ≡ b .start
   pub state : view (r .state) ≡ b .state
   pub store : after ≡ b .store
+
+-- how arrays of words and of channels are seen
+abbrev pub wordsSeen : List ℕ → ℕ → ℕ
+wordsSeen words = λ p. getD words p 0
+
+abbrev pub channelsSeen : List Channel → ℕ → List Entry
+channelsSeen channels = λ c. entries (getD channels c emptyChannel)

@@ -1,14 +1,15 @@
 // Step 8, abort (document 01's give up): the messages of the planned channels stay, in order, all tags are 0, and
 // the round is over.
-use crate::channel;
-use crate::phase;
+use crate::entries;
 use model::Answer;
-use model::Flags;
 use model::Outcome;
+use model::PROCESSES;
 use model::Phase;
 use model::Refusal;
 use model::Round;
 use model::State;
+use rules::fresh;
+use rules::phase;
 ghost use mathlib.Core.Path.{_≡_};
 ghost use mathlib.Core.Bool.{true};
 ghost use Rattle.model.specs.State.{view};
@@ -21,7 +22,8 @@ pub fn abort(mut s: State) -> Answer
     ensures { λ r. ⌜ Quiet s Abort r ⌝ }
 {
     let round = s.round;
-    if phase::is_idle(round) {
+    let phase = round.phase;
+    if phase::is_idle(phase) {
         return Answer {
             outcome: Outcome::Refused(Refusal::NotNow),
             made: 0,
@@ -33,19 +35,15 @@ pub fn abort(mut s: State) -> Answer
     while i < t.channels {
         let at = i as usize;
         let c = s.channels[at];
-        s.channels[at] = channel::plain(c);
+        s.channels[at] = entries::plain(c);
         i += 1;
     }
-    let flags = Flags {
-        checkpointed: [false; 16],
-        closed: [false; 64],
-        sent: [false; 64],
-    };
+    let flags = fresh::flags();
     let over = Round {
         line: round.line,
         phase: Phase::Idle,
     };
-    s.tags = [false; 16];
+    s.tags = [false; PROCESSES];
     s.flags = flags;
     s.round = over;
     Answer {

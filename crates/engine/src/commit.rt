@@ -1,6 +1,4 @@
 // Step 7, commit (document 01's finish): the line of the round under way becomes the last one finished.
-use crate::fresh;
-use crate::layout;
 use crate::store;
 use model::Answer;
 use model::Flags;
@@ -9,22 +7,25 @@ use model::Phase;
 use model::Refusal;
 use model::Round;
 use model::State;
+use rules::fresh;
+use rules::layout;
+use rules::phase;
 ghost use mathlib.Core.Path.{_≡_};
 ghost use mathlib.Core.Bool.{true, false, _&&_};
 ghost use Prim.Native.Nat.{_≤_};
-ghost use lib.ListN.{length, getD};
-ghost use Rattle.model.specs.Notation.{allBelow};
+ghost use lib.ListN.{length};
+ghost use Rattle.model.specs.Topology.{processLimit, channelLimit};
+ghost use Rattle.model.specs.Phase.{isLogical};
 ghost use Rattle.model.specs.Layout.{storeCells};
 ghost use Rattle.model.specs.State.{view};
 ghost use Rattle.model.specs.Sound.{sound};
 ghost use Rattle.model.specs.declared.Step.the-variants.{Commit};
-ghost use Rattle.model.specs.Step.{isLogical};
-ghost use Rattle.engine.specs.Answers.{Performs};
+ghost use Rattle.engine.specs.Answers.{Performs, allSet};
 
 // Whether the first n flags are set.
 fn all_set(flags: &[bool], n: u8) -> bool
     requires { ⌜ n ≤ length (now flags) ⌝ }
-    ensures { λ r. ⌜ r ≡ allBelow n (λ i. getD (now (flags .entry)) i false) ⌝ }
+    ensures { λ r. ⌜ r ≡ allSet (now (flags .entry)) n ⌝ }
 {
     let mut i: usize = 0;
     while i < n as usize {
@@ -38,16 +39,13 @@ fn all_set(flags: &[bool], n: u8) -> bool
 
 // Whether the logical phase is through: every process has its logical checkpoint, and every channel is closed.
 fn may_commit(phase: Phase, flags: Flags, processes: u8, channels: u8) -> bool
-    requires { ⌜ (processes ≤ 16) × (channels ≤ 64) ⌝ }
-    ensures { λ r. ⌜ r ≡ (isLogical phase && allBelow processes (λ p. getD (flags .checkpointed) p false) && allBelow channels (λ c. getD (flags .closed) c false)) ⌝ }
+    requires { ⌜ (processes ≤ processLimit) × (channels ≤ channelLimit) ⌝ }
+    ensures { λ r. ⌜ r ≡ (isLogical phase && allSet (flags .logical) processes && allSet (flags .closed) channels) ⌝ }
 {
-    match phase {
-        Phase::Idle => false,
-        Phase::Physical(_) => false,
-        Phase::Logical => {
-            all_set(&flags.checkpointed, processes) && all_set(&flags.closed, channels)
-        }
+    if !phase::is_logical(phase) {
+        return false;
     }
+    all_set(&flags.logical, processes) & all_set(&flags.closed, channels)
 }
 
 pub fn commit(mut s: State, store: &mut [u32], budget: u32) -> Answer

@@ -2,18 +2,18 @@
 use crate::abort;
 use crate::begin;
 use crate::commit;
-use crate::layout;
 use crate::logical_checkpoint;
 use crate::physical_checkpoint;
 use crate::receive;
 use crate::send;
 use crate::send_marker;
-use crate::sound;
 use model::Answer;
 use model::Outcome;
 use model::Refusal;
 use model::State;
 use model::Step;
+use rules::layout;
+use rules::sound;
 ghost use Rattle.engine.specs.Answers.{Answers};
 
 // A step of any kind, of any state and any store, with the number of writes that the power lasts for.

@@ -1,9 +1,9 @@
 // Step 5, the logical checkpoint of a process (document 01's mark): it turns the process's tag over.
-use crate::phase;
 use model::Answer;
 use model::Outcome;
 use model::Refusal;
 use model::State;
+use rules::phase;
 ghost use mathlib.Core.Path.{_≡_};
 ghost use mathlib.Core.Bool.{true};
 ghost use Rattle.model.specs.State.{view};
@@ -26,15 +26,17 @@ pub fn logical_checkpoint(mut s: State, process: u8) -> Answer
     let at = process as usize;
     let mut f = s.flags;
     let round = s.round;
-    let in_turn = process == 0 || f.checkpointed[0];
-    if !phase::allows(round, f.checkpointed[at], in_turn) {
+    let phase = round.phase;
+    let in_turn = (process == 0) | f.logical[0];
+    let may = phase::is_logical(phase) & !f.logical[at] & in_turn;
+    if !may {
         return Answer {
             outcome: Outcome::Refused(Refusal::NotNow),
             made: 0,
             state: s,
         };
     }
-    f.checkpointed[at] = true;
+    f.logical[at] = true;
     s.flags = f;
     s.tags[at] = !s.tags[at];
     Answer {

@@ -1,7 +1,5 @@
-// Step 4, the physical checkpoint of a process (document 01's copy): its word goes into the store. After the last
-// one the logical phase starts.
-use crate::fresh;
-use crate::layout;
+// Step 4, the physical checkpoint of a process (document 01's copy): its word goes into the store. After the last one
+// the logical phase starts.
 use crate::store;
 use model::Answer;
 use model::Outcome;
@@ -9,59 +7,32 @@ use model::Phase;
 use model::Refusal;
 use model::Round;
 use model::State;
+use rules::fresh;
+use rules::layout;
+use rules::phase;
 ghost use mathlib.Core.Path.{_≡_};
-ghost use mathlib.Core.Bool.{true, cond};
-ghost use Prim.Native.Nat.{_+_, _<_, _≤_};
+ghost use mathlib.Core.Bool.{true};
+ghost use Prim.Native.Nat.{_≤_, _<_};
 ghost use lib.ListN.{length};
-ghost use lib.Dec.{ltb};
-ghost use Rattle.model.specs.declared.Phase.the-variants.{Physical, Logical};
-ghost use Rattle.model.specs.declared.Refusal.the-variants.{NoSuch, NotNow};
 ghost use Rattle.model.specs.declared.Step.the-variants.{PhysicalCheckpoint};
+ghost use Rattle.model.specs.Topology.{processLimit};
 ghost use Rattle.model.specs.Layout.{storeCells};
 ghost use Rattle.model.specs.State.{view};
 ghost use Rattle.model.specs.Sound.{sound};
-ghost use Rattle.model.specs.Step.{isNext};
-ghost use Rattle.engine.specs.Answers.{Performs};
+ghost use Rattle.engine.specs.Answers.{Performs, roundAfter};
 
-// Whether the process is the next one to checkpoint.
-fn is_next(round: Round, process: u8) -> bool
-    ensures { λ r. ⌜ r ≡ isNext (round .phase) process ⌝ }
-{
-    let phase = round.phase;
-    match phase {
-        Phase::Idle => false,
-        Phase::Physical(next) => process == next,
-        Phase::Logical => false,
-    }
-}
-
-// How a process that is not the next one is refused. (The next one is in the topology, as the state is sound.)
-fn refusal(process: u8, processes: u8) -> Refusal
-    ensures { λ r. ⌜ r ≡ cond (ltb process processes) NotNow NoSuch ⌝ }
-{
-    if process < processes {
-        Refusal::NotNow
-    } else {
-        Refusal::NoSuch
-    }
-}
-
-// The round after the checkpoint of a process.
+// The round after the physical checkpoint of a process.
 fn round_after(round: Round, process: u8, processes: u8) -> Round
-    requires { ⌜ process < 16 ⌝ }
-    ensures { λ r. ⌜ r ≡ record { line = round .line; phase = cond (ltb (process + 1) processes) (Physical (process + 1)) Logical } ⌝ }
+    requires { ⌜ process < processLimit ⌝ }
+    ensures { λ r. ⌜ r ≡ roundAfter round process processes ⌝ }
 {
+    let line = round.line;
     if process + 1 < processes {
-        Round {
-            line: round.line,
-            phase: Phase::Physical(process + 1),
-        }
-    } else {
-        Round {
-            line: round.line,
-            phase: Phase::Logical,
-        }
+        let phase = Phase::Physical(process + 1);
+        return Round { line, phase };
     }
+    let phase = Phase::Logical;
+    Round { line, phase }
 }
 
 pub fn physical_checkpoint(mut s: State, process: u8, store: &mut [u32], budget: u32) -> Answer
@@ -69,15 +40,23 @@ pub fn physical_checkpoint(mut s: State, process: u8, store: &mut [u32], budget:
     ensures { λ r. ⌜ Performs s (PhysicalCheckpoint process) (now (store .entry)) budget r (now (store .exit)) ⌝ }
 {
     let t = s.topology;
-    let round = s.round;
-    if !is_next(round, process) {
+    if t.processes <= process {
         return Answer {
-            outcome: Outcome::Refused(refusal(process, t.processes)),
+            outcome: Outcome::Refused(Refusal::NoSuch),
             made: 0,
             state: s,
         };
     }
-    let at = layout::checkpoint_cell(round.line + 1, process);
+    let round = s.round;
+    let phase = round.phase;
+    if !phase::is_next(phase, process) {
+        return Answer {
+            outcome: Outcome::Refused(Refusal::NotNow),
+            made: 0,
+            state: s,
+        };
+    }
+    let at = layout::physical_cell(round.line + 1, process);
     let word = s.words[process as usize];
     store::put(store, budget, at, word);
     if budget < 1 {

@@ -1,37 +1,46 @@
-// Step 2, receive (document 01's take): the first entry of a channel, a marker or a message, leaves it.
-use crate::channel;
-use crate::entry;
-use crate::entry::Setting;
-use crate::log;
-use crate::log::Log;
-use crate::log::Needed;
+// Step 2, receive (document 01's take): the first entry of a channel, a marker or a message, leaves it. What it does is
+// decided once, by its reaction: what turns the receive down, what it writes and what it changes follow from that.
+use crate::entries;
 use crate::store;
 use model::Answer;
-use model::Channel;
 use model::Counts;
+use model::Entry;
+use model::Flags;
 use model::Outcome;
 use model::Refusal;
 use model::State;
+use model::Verdict;
+use rules::channel;
+use rules::layout;
+use rules::reaction;
+use rules::reaction::Reaction;
+use rules::word;
 ghost use mathlib.Core.Path.{_≡_};
-ghost use mathlib.Core.Bool.{true};
-ghost use mathlib.Core.List.{[], _∷_};
-ghost use mathlib.Core.Option.{some};
-ghost use Prim.Native.Nat.{_≤_};
+ghost use mathlib.Core.Bool.{true, false};
+ghost use Prim.Native.Nat.{_≤_, _<_};
 ghost use lib.ListN.{length};
-ghost use Rattle.model.specs.declared.Outcome.the-variants.{Received};
-ghost use Rattle.model.specs.declared.Refusal.the-variants.{LogFull};
 ghost use Rattle.model.specs.declared.Step.the-variants.{Receive};
-ghost use Rattle.model.specs.Notation.{_⇒_, firstRefusal};
-ghost use Rattle.model.specs.Channel.{entries};
+ghost use Rattle.model.specs.Check.{refusalOf, firstRefusal};
+ghost use Rattle.model.specs.Topology.{processLimit, channelLimit};
 ghost use Rattle.model.specs.Layout.{storeCells};
-ghost use Rattle.model.specs.State.{view, viewCounts};
+ghost use Rattle.model.specs.State.{view, viewProgress, viewCounts, raisedAll};
 ghost use Rattle.model.specs.Sound.{sound};
 ghost use Rattle.engine.specs.Answers.{Performs};
-ghost use Rattle.engine.specs.Needed.{logOf, InArrays};
-ghost use Rattle.engine.specs.Receiving.{Within, full, keptWrites, turnedDown, Attempted, Attempts};
+ghost use Rattle.engine.specs.Spent.{Needed};
+ghost use Rattle.engine.specs.Receiving.{InArrays, logsOf, full, receiveChecks, bodyWrites, Attempts};
+ghost use Rattle.engine.specs.Receiving.{wordAfter, flagsAfter};
 
-// What an entry of a log costs: its body, and the raised count.
+// What a body in a log costs: its entry, and the raised count.
 const LOG_WRITES: u32 = 2;
+
+// Where an entry is received: its channel, with how many entries, closed or not; its receiver; and every log's count.
+struct Setting {
+    channel: u8,
+    entries: u8,
+    closed: bool,
+    receiver: u8,
+    counts: Counts,
+}
 
 // What came of an attempt to receive an entry: whether it was received, the outcome, and the writes made.
 struct Reception {
@@ -40,36 +49,66 @@ struct Reception {
     made: u32,
 }
 
-// Nothing is received, and nothing written.
-fn refused(refusal: Refusal) -> Reception
-    ensures { λ r. ⌜ r ≡ turnedDown refusal ⌝ }
+// Refusals 10, 14 and 11.
+fn check(x: Reaction, at: Setting) -> Verdict
+    requires { ⌜ InArrays at ⌝ }
+    ensures { λ r. ⌜ refusalOf r ≡ firstRefusal (receiveChecks x at) ⌝ }
 {
-    Reception {
-        received: false,
-        outcome: Outcome::Refused(refusal),
-        made: 0,
+    let counts = at.counts;
+    if at.entries == 0 {
+        return Verdict::Refuse(Refusal::ChannelEmpty);
     }
+    if x.closes & at.closed {
+        return Verdict::Refuse(Refusal::MarkerOnClosed);
+    }
+    let in_channel = counts.channels[at.channel as usize];
+    let in_messages = counts.messages[at.receiver as usize];
+    let channel_full = x.channel_log & (layout::CHANNEL_PLACES <= in_channel);
+    let message_full = x.message_log & (layout::MESSAGE_PLACES <= in_messages);
+    if channel_full | message_full {
+        return Verdict::Refuse(Refusal::LogFull);
+    }
+    Verdict::Pass
 }
 
-// A message into its log for the line, as far as the power lasts; refused where the log is full.
-fn logged(
+// The body into the logs that the reaction needs, for the line after this one, as far as the power lasts. It answers
+// how many writes are needed. (The slot goes by the line's parity: where the line wraps, too, it is the right one.)
+fn log(x: Reaction, at: Setting, line: u32, body: u32, store: &mut [u32], budget: u32) -> u32
+    requires { ⌜ InArrays at × (full x at ≡ false) × (storeCells ≤ length (now store)) ⌝ }
+    ensures { λ r. ⌜ Needed (now (store .entry)) budget (bodyWrites x at line body) (now (store .exit)) r ⌝ }
+{
+    let counts = at.counts;
+    let next = std::num::wrapping_add_u32(line, 1);
+    let in_channel = counts.channels[at.channel as usize];
+    let channel = layout::channel_count_cell(next, at.channel);
+    let left = store::append(store, budget, x.channel_log, channel, in_channel, body);
+    let in_messages = counts.messages[at.receiver as usize];
+    let message = layout::message_count_cell(next, at.receiver);
+    store::append(store, left, x.message_log, message, in_messages, body);
+    LOG_WRITES * (x.channel_log as u32 + x.message_log as u32)
+}
+
+// Refusals 10, 14 and 11 of the entry, and then the writes of its logs, as far as the power lasts.
+fn attempt(
+    x: Reaction,
+    at: Setting,
+    e: Entry,
     line: u32,
-    log: Log,
-    body: u32,
-    counts: Counts,
     store: &mut [u32],
     budget: u32,
 ) -> Reception
-    requires { ⌜ InArrays (logOf log) × (storeCells ≤ length (now store)) ⌝ }
-    ensures { λ r. ⌜ Attempted (firstRefusal ((full (viewCounts counts) (some (logOf log)) ⇒ LogFull) ∷ [])) (keptWrites line (viewCounts counts) (some (logOf log)) body) (Received body) (now (store .entry)) budget r (now (store .exit)) ⌝ }
+    requires { ⌜ InArrays at × (storeCells ≤ length (now store)) ⌝ }
+    ensures { λ r. ⌜ Attempts x at e line (now (store .entry)) budget r (now (store .exit)) ⌝ }
 {
-    let count = log::count(counts, log);
-    if log::room(log) <= count {
-        return refused(Refusal::LogFull);
+    if let Verdict::Refuse(refusal) = check(x, at) {
+        return Reception {
+            received: false,
+            outcome: Outcome::Refused(refusal),
+            made: 0,
+        };
     }
-    let cell = log::count_cell(line, log);
-    store::append(store, budget, cell, count, body);
-    if budget < LOG_WRITES {
+    let needed = log(x, at, line, reaction::body(e), store, budget);
+    if budget < needed {
         return Reception {
             received: false,
             outcome: Outcome::PowerLost,
@@ -78,33 +117,45 @@ fn logged(
     }
     Reception {
         received: true,
-        outcome: Outcome::Received(body),
-        made: LOG_WRITES,
+        outcome: reaction::outcome(e),
+        made: needed,
     }
 }
 
-// Refusals 10, 14 and 11 of the channel's first entry, and then its log's writes, as far as the power lasts.
-fn attempt(at: Setting, c: Channel, counts: Counts, store: &mut [u32], budget: u32) -> Reception
-    requires { ⌜ Within at × (storeCells ≤ length (now store)) ⌝ }
-    ensures { λ r. ⌜ Attempts at (entries c) (viewCounts counts) (now (store .entry)) budget r (now (store .exit)) ⌝ }
+// The receiver's word, which a message enters.
+fn word_after(word: u32, e: Entry) -> u32
+    ensures { λ r. ⌜ r ≡ wordAfter e word ⌝ }
 {
-    if c.count == 0 {
-        return refused(Refusal::ChannelEmpty);
+    match e {
+        Entry::Message { body, tag: _ } => word::enter(word, body),
+        Entry::Marker => word,
     }
-    let e = channel::first(c);
-    let round = at.round;
-    let phase = round.phase;
-    if entry::closing(phase, e) && at.closed {
-        return refused(Refusal::MarkerOnClosed);
-    }
-    match entry::needed(at, e) {
-        Needed::Nothing => Reception {
-            received: true,
-            outcome: entry::outcome(e),
-            made: 0,
-        },
-        Needed::In(log) => logged(round.line + 1, log, entry::body(e), counts, store, budget),
-    }
+}
+
+// The flags after it: the receiver has its logical checkpoint and the channel is closed, where the reaction says so.
+fn flags_after(flags: Flags, x: Reaction, channel: u8, receiver: u8) -> Flags
+    requires { ⌜ (channel < channelLimit) × (receiver < processLimit) ⌝ }
+    ensures { λ r. ⌜ viewProgress r ≡ flagsAfter x channel receiver flags ⌝ }
+{
+    let mut r = flags;
+    let at = channel as usize;
+    let to = receiver as usize;
+    r.logical[to] = r.logical[to] | x.logical_first;
+    r.closed[at] = r.closed[at] | x.closes;
+    r
+}
+
+// The logs' counts after it: one entry more in each log that the reaction needs.
+fn counts_after(at: Setting, x: Reaction) -> Counts
+    requires { ⌜ InArrays at ⌝ }
+    ensures { λ r. ⌜ viewCounts r ≡ raisedAll (logsOf x at) (viewCounts (at .counts)) ⌝ }
+{
+    let mut r = at.counts;
+    let c = at.channel as usize;
+    let to = at.receiver as usize;
+    r.channels[c] = r.channels[c] + x.channel_log as u8;
+    r.messages[to] = r.messages[to] + x.message_log as u8;
+    r
 }
 
 pub fn receive(mut s: State, channel: u8, store: &mut [u32], budget: u32) -> Answer
@@ -121,29 +172,38 @@ pub fn receive(mut s: State, channel: u8, store: &mut [u32], budget: u32) -> Ans
     }
     let index = channel as usize;
     let c = s.channels[index];
-    let to = t.to[index] as usize;
+    let e = channel::entry_at(c, 0);
+    let receiver = t.to[index];
+    let to = receiver as usize;
     let flags = s.flags;
+    let round = s.round;
+    let phase = round.phase;
+    let x = reaction::react(phase, receiver, flags.logical[to], s.tags[to], e);
     let at = Setting {
-        round: s.round,
         channel,
+        entries: c.count,
         closed: flags.closed[index],
-        receiver: t.to[index],
-        tag: s.tags[to],
-        checkpointed: flags.checkpointed[to],
+        receiver,
+        counts: s.counts,
     };
-    let came = attempt(at, c, s.counts, store, budget);
-    if came.received {
-        let e = channel::first(c);
-        s.channels[index] = channel::pop(c);
-        s.words[to] = entry::word_after(s.words[to], e);
-        s.tags[to] = entry::tag_after(at, e);
-        s.flags = entry::flags_after(flags, at, e);
-        s.counts = entry::counts_after(s.counts, entry::needed(at, e));
-    }
+    let came = attempt(x, at, e, round.line, store, budget);
     let outcome = came.outcome;
+    let made = came.made;
+    if !came.received {
+        return Answer {
+            outcome,
+            made,
+            state: s,
+        };
+    }
+    s.channels[index] = entries::pop(c);
+    s.words[to] = word_after(s.words[to], e);
+    s.tags[to] = s.tags[to] != x.logical_first;
+    s.flags = flags_after(flags, x, channel, receiver);
+    s.counts = counts_after(at, x);
     Answer {
         outcome,
-        made: came.made,
+        made,
         state: s,
     }
 }

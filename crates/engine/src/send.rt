@@ -1,8 +1,9 @@
 // Step 1, send: a message after the others on its channel, with its sender's tag.
-use crate::channel;
+use crate::entries;
 use model::Answer;
 use model::Entry;
 use model::Outcome;
+use model::ROOM;
 use model::Refusal;
 use model::State;
 ghost use mathlib.Core.Path.{_≡_};
@@ -26,7 +27,7 @@ pub fn send(mut s: State, channel: u8, body: u32) -> Answer
     }
     let at = channel as usize;
     let c = s.channels[at];
-    if channel::ROOM <= c.count {
+    if ROOM <= c.count as usize {
         return Answer {
             outcome: Outcome::Refused(Refusal::ChannelFull),
             made: 0,
@@ -35,7 +36,7 @@ pub fn send(mut s: State, channel: u8, body: u32) -> Answer
     }
     let from = t.from[at] as usize;
     let tag = s.tags[from];
-    s.channels[at] = channel::push(c, Entry::Message { body, tag });
+    s.channels[at] = entries::push(c, Entry::Message { body, tag });
     Answer {
         outcome: Outcome::Done,
         made: 0,

@@ -1,11 +1,12 @@
 // Step 6, a marker (document 01's note) after the entries of a channel, once its sender has its logical checkpoint.
-use crate::channel;
-use crate::phase;
+use crate::entries;
 use model::Answer;
 use model::Entry;
 use model::Outcome;
+use model::ROOM;
 use model::Refusal;
 use model::State;
+use rules::phase;
 ghost use mathlib.Core.Path.{_≡_};
 ghost use mathlib.Core.Bool.{true};
 ghost use Rattle.model.specs.State.{view};
@@ -27,8 +28,10 @@ pub fn send_marker(mut s: State, channel: u8) -> Answer
     }
     let at = channel as usize;
     let round = s.round;
+    let phase = round.phase;
     let mut f = s.flags;
-    if !phase::allows(round, f.sent[at], f.checkpointed[t.from[at] as usize]) {
+    let may = phase::is_logical(phase) & f.logical[t.from[at] as usize] & !f.sent[at];
+    if !may {
         return Answer {
             outcome: Outcome::Refused(Refusal::NotNow),
             made: 0,
@@ -36,7 +39,7 @@ pub fn send_marker(mut s: State, channel: u8) -> Answer
         };
     }
     let c = s.channels[at];
-    if channel::ROOM <= c.count {
+    if ROOM <= c.count as usize {
         return Answer {
             outcome: Outcome::Refused(Refusal::ChannelFull),
             made: 0,
@@ -45,7 +48,7 @@ pub fn send_marker(mut s: State, channel: u8) -> Answer
     }
     f.sent[at] = true;
     s.flags = f;
-    s.channels[at] = channel::push(c, Entry::Marker);
+    s.channels[at] = entries::push(c, Entry::Marker);
     Answer {
         outcome: Outcome::Done,
         made: 0,

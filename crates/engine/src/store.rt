@@ -1,21 +1,22 @@
 // The store under a budget of writes, of which each function hands back what is left; and the reading of a log.
-use crate::word;
 use model::Channel;
+use model::ROOM;
+use rules::word;
 ghost use mathlib.Core.Path.{_≡_};
-ghost use mathlib.Core.Bool.{false};
-ghost use mathlib.Core.List.{[], _∷_};
+ghost use mathlib.Core.Bool.{true, false};
 ghost use Prim.Native.Nat.{ℕ, _+_, _*_, _<_, _≤_};
 ghost use lib.ListN.{length};
-ghost use Rattle.model.specs.Notation.{tabulate};
+ghost use lib.Dec.{leb};
+ghost use Rattle.model.specs.Notation.{allBelow};
 ghost use Rattle.model.specs.Word.{replay};
-ghost use Rattle.model.specs.Channel.{entries, messages};
-ghost use Rattle.model.specs.Layout.{cell, logFrom};
-ghost use Rattle.engine.specs.Spent.{Spent};
+ghost use Rattle.model.specs.Channel.{channelRoom, entries, messages};
+ghost use Rattle.model.specs.Layout.{cell, entryCell};
+ghost use Rattle.engine.specs.Spent.{Spent, oneWrite, zeroWrites, appendIf, loggedAt};
 
 // One write.
 pub fn put(store: &mut [u32], budget: u32, at: usize, value: u32) -> u32
     requires { ⌜ at < length (now store) ⌝ }
-    ensures { λ r. ⌜ Spent (now (store .entry)) budget (record { cell = at; value = value } ∷ []) (now (store .exit)) r ⌝ }
+    ensures { λ r. ⌜ Spent (now (store .entry)) budget (oneWrite at value) (now (store .exit)) r ⌝ }
 {
     if budget == 0 {
         return 0;
@@ -24,11 +25,14 @@ pub fn put(store: &mut [u32], budget: u32, at: usize, value: u32) -> u32
     budget - 1
 }
 
-// An entry of the log whose count stands in the cell at, and then the raised count.
-pub fn append(store: &mut [u32], budget: u32, at: usize, count: u8, body: u32) -> u32
-    requires { ⌜ at + 1 + count < length (now store) ⌝ }
-    ensures { λ r. ⌜ Spent (now (store .entry)) budget (record { cell = at + 1 + count; value = body } ∷ record { cell = at; value = count + 1 } ∷ []) (now (store .exit)) r ⌝ }
+// If it is needed, an entry of the log whose count stands in the cell at, and then the raised count.
+pub fn append(store: &mut [u32], budget: u32, needed: bool, at: usize, count: u8, body: u32) -> u32
+    requires { ⌜ (needed ≡ true → entryCell at count < length (now store)) ⌝ }
+    ensures { λ r. ⌜ Spent (now (store .entry)) budget (appendIf needed at count body) (now (store .exit)) r ⌝ }
 {
+    if !needed {
+        return budget;
+    }
     let left = put(store, budget, at + 1 + (count as usize), body);
     put(store, left, at, (count as u32) + 1)
 }
@@ -36,7 +40,7 @@ pub fn append(store: &mut [u32], budget: u32, at: usize, count: u8, body: u32) -
 // 0 into n cells, from first on, each a stride after the one before.
 pub fn zeros(store: &mut [u32], budget: u32, first: usize, stride: usize, n: usize) -> u32
     requires { ⌜ ((i : ℕ) → i < n → first + stride * i < length (now store)) ⌝ }
-    ensures { λ r. ⌜ Spent (now (store .entry)) budget (tabulate n (λ i. record { cell = first + stride * i; value = 0 })) (now (store .exit)) r ⌝ }
+    ensures { λ r. ⌜ Spent (now (store .entry)) budget (zeroWrites first stride n) (now (store .exit)) r ⌝ }
 {
     let mut left = budget;
     let mut i = 0;
@@ -47,10 +51,25 @@ pub fn zeros(store: &mut [u32], budget: u32, first: usize, stride: usize, n: usi
     left
 }
 
+// Whether n cells, from first on and each a stride after the one before, hold at most the limit.
+pub fn at_most(store: &[u32], first: usize, stride: usize, n: u8, limit: u8) -> bool
+    requires { ⌜ ((i : ℕ) → i < n → first + stride * i < length (now store)) ⌝ }
+    ensures { λ r. ⌜ r ≡ allBelow n (λ i. leb (cell (now (store .entry)) (first + stride * i)) limit) ⌝ }
+{
+    let mut i: usize = 0;
+    while i < n as usize {
+        if (limit as u32) < store[first + stride * i] {
+            return false;
+        }
+        i += 1;
+    }
+    true
+}
+
 // What the log whose count stands in the cell at makes of a word.
 pub fn replay_log(store: &[u32], at: usize, word: u32) -> u32
     requires { ⌜ at + cell (now store) at < length (now store) ⌝ }
-    ensures { λ r. ⌜ r ≡ replay word (logFrom (now (store .entry)) at) ⌝ }
+    ensures { λ r. ⌜ r ≡ replay word (loggedAt (now (store .entry)) at) ⌝ }
 {
     let n = store[at] as usize;
     let mut w = word;
@@ -64,11 +83,11 @@ pub fn replay_log(store: &[u32], at: usize, word: u32) -> u32
 
 // A channel with the log's bodies as messages tagged 0.
 pub fn fill(store: &[u32], at: usize) -> Channel
-    requires { ⌜ (cell (now store) at ≤ 8) × (at + cell (now store) at < length (now store)) ⌝ }
-    ensures { λ r. ⌜ entries r ≡ messages false (logFrom (now (store .entry)) at) ⌝ }
+    requires { ⌜ (cell (now store) at ≤ channelRoom) × (at + cell (now store) at < length (now store)) ⌝ }
+    ensures { λ r. ⌜ entries r ≡ messages false (loggedAt (now (store .entry)) at) ⌝ }
 {
     let n = store[at] as usize;
-    let mut bodies = [0; 8];
+    let mut bodies = [0; ROOM];
     let mut i = 0;
     while i < n {
         bodies[i] = store[at + 1 + i];
@@ -76,7 +95,7 @@ pub fn fill(store: &[u32], at: usize) -> Channel
     }
     Channel {
         bodies,
-        kinds: [0; 8],
+        kinds: [0; ROOM],
         count: n as u8,
     }
 }

@@ -1,128 +1,123 @@
--- `engine::begin::begin` meets its contract: refused where no round may begin, else the logs' counts are cleared and the physical phase starts.
+-- `engine::begin::begin` meets its contract: refused where no round may begin, else the logs' counts are cleared and
+-- the physical phase starts.
 use Prim.Native.Nat.{_+_}
 use mathlib.Core.Path.{_≡_, sym, refl, _∙_}
-use mathlib.Core.Bool.{true}
+use mathlib.Core.Bool.{true, false}
+use mathlib.Core.Option.{none, some}
 use native.Mathlib.Omega.{arith}
 use borrow.Author.Needs.{needs}
-use borrow.Author.Tests.{not-true, not-false}
+use borrow.Author.Tests.{eq-eqb, ne-eqb, not-true, not-false}
 use denote.Ref.{now}
 use lib.ListN.{length, take}
+use Rattle.model.specs.declared.State.{State}
 use Rattle.model.specs.declared.Step.the-variants.{Begin}
+use Rattle.model.specs.declared.Refusal.the-variants.{NotNow, LastLine}
+use Rattle.model.specs.Check.{firstRefusal}
+use Rattle.model.specs.Phase.{isIdle}
 use Rattle.model.specs.State.{view}
-use Rattle.model.specs.Write.{Result, writeAll}
+use Rattle.model.specs.Sound.{lastLine}
+use Rattle.model.specs.Write.{writeAll}
 use Rattle.model.specs.Change.{inPhase, withRound, withCounts}
-use Rattle.model.specs.Outcome.{accepted}
-use Rattle.model.specs.Step.{nextLine, effect}
-use Rattle.engine.specs.Answers.{ownResult}
-use Rattle.engine.proofs.StoreBounds.{sound-sized}
+use Rattle.model.specs.Step.{priorChecks, roomChecks, logChecks, ownChecks, nextLine, effect}
+use Rattle.model.proofs.store.Sizes.{Sized}
+use Rattle.engine.proofs.Bounds.{sound-sized}
+use Rattle.engine.proofs.Clearing.{clear-length}
 use Rattle.engine.proofs.Views.{same-state}
 use Rattle.engine.proofs.Promises.{performs-refused, performs-lost, performs-done}
-use Rattle.engine.proofs.BeginCases.{mayBegin, begin-refused, begin-done, begin-fits, clear-length}
 use Rattle.engine.proofs.begin.begin.Statement.{statement}
 use Rattle.engine.proofs.begin.begin.Tie as tie
 
-abbrev start : tie.After-may-begin → tie.Start
-start c = c .before .before .before .before
+-- what its checks say
+module _ (s : State) where
+  not-now : isIdle (s .round .phase) ≡ false → firstRefusal (ownChecks (view s) Begin) ≡ some NotNow
+  unfolding ownChecks priorChecks roomChecks logChecks firstRefusal view
+  not-now e = rw e
 
-decided : (c : tie.After-may-begin) → mayBegin (view (start c .args .s)) ≡ c .may-begin .result
-unfolding view
-decided c = sym (c .may-begin .ensures)
+  last-line : isIdle (s .round .phase) ≡ true → s .round .line ≡ lastLine
+      → firstRefusal (ownChecks (view s) Begin) ≡ some LastLine
+  unfolding ownChecks priorChecks roomChecks logChecks firstRefusal view
+  last-line e l = rw (e, eq-eqb (s .round .line) lastLine l)
 
-may-begin-requires : tie.Need-may-begin-requires
-may-begin-requires c κs = search needs
+  passed : isIdle (s .round .phase) ≡ true → (s .round .line ≡ lastLine → ⊥)
+      → firstRefusal (ownChecks (view s) Begin) ≡ none
+  unfolding ownChecks priorChecks roomChecks logChecks firstRefusal view
+  passed e l = rw (e, ne-eqb (s .round .line) lastLine l)
 
-refusal-requires : tie.Need-refusal-requires
-refusal-requires c κs = search needs
+-- once the phase was asked for
+abbrev start : tie.After-is-idle → tie.Start
+start p = p .before .before .before .before
 
 returns : tie.Need-returns
-unfolding view
 returns c =
-    let b = c .before .before in
-    performs-refused (start b .args .s) Begin _ _ (c .refusal .result)
-    (rw (c .refusal .ensures) (begin-refused (view (start b .args .s)) (decided b ∙ not-true _ (c .before .if1 .taken))))
+    let s = start (c .before) .args .s in
+    performs-refused s Begin _ _ NotNow (not-now s (sym (c .before .is-idle .ensures) ∙ not-true _ (c .if1 .taken)))
 
--- the round may begin
-module _ (c : tie.Else1) where
-  abbrev b : tie.Start
-  b = start (c .before)
-
-  passed : mayBegin (view (b .args .s)) ≡ true
-  passed = decided (c .before) ∙ not-false _ (c .if1 .left)
-
-  abbrev done : Result
-  done = effect (view (b .args .s)) Begin
-
-  own : ownResult (view (b .args .s)) Begin ≡ done
-  own = begin-done (view (b .args .s)) passed
-
-add-clear : tie.Need-add-clear
-unfolding view nextLine
-add-clear c = omega (arith, begin-fits (view (b (c .before .before) .args .s)) (passed (c .before .before)) (omega arith))
-
-clear-requires : tie.Need-clear-requires
-unfolding view
-clear-requires c κs =
-    let e = c .before .before in
-    let sized = sound-sized (view (b e .args .s)) (b e .pre .0) (now (b e .args .store)) (b e .pre .1) in
-    (sized .processes, sized .channels, sized .cells)
-
-cast-writes : tie.Need-cast-writes
-cast-writes c = search needs
-
-cast-writes-2 : tie.Need-cast-writes-2
-cast-writes-2 c = search needs
-
-add-writes : tie.Need-add-writes
-add-writes c = search needs
-
-same-length : tie.Need-same-length
-same-length c = search needs
-
--- the writes
-module _ (c : tie.After-clear) where
-  abbrev e : tie.Else1
-  e = c .before .before .before
-
-  written : c .clear .last .0 ≡ writeAll (now (b e .args .store)) (take (b e .args .budget) (done e .writes))
-  unfolding effect nextLine view
-  written = c .clear .ensures .store
-
-  many : length (done e .writes) ≡ b e .args .s .topology .processes + b e .args .s .topology .channels
-  unfolding effect view
-  many = clear-length (b e .args .s .topology) _
+idle : (d : tie.Else1) → isIdle (start (d .before) .args .s .round .phase) ≡ true
+idle d = sym (d .before .is-idle .ensures) ∙ not-false _ (d .if1 .left)
 
 returns-2 : tie.Need-returns-2
 returns-2 c =
-    let p = c .before .before .before .before .before in
-    performs-lost (b (e p) .args .s) Begin _ _ (done (e p)) (own (e p)) _ (written p) (rw (many p) (c .if2 .taken))
+    let d = c .before .before in
+    let s = start (d .before) .args .s in
+    performs-refused s Begin _ _ LastLine (last-line s (idle d) (c .if2 .taken))
 
-counts-requires : tie.Need-counts-requires
-counts-requires c κs = search needs
+-- the round may begin
+module _ (e : tie.Else2) where
+  abbrev began : tie.Start
+  began = start (e .before .before .before)
 
-same-length-2 : tie.Need-same-length-2
-same-length-2 c = search needs
+  abbrev state : State
+  state = began .args .s
+
+  may : firstRefusal (ownChecks (view state) Begin) ≡ none
+  may = passed state (idle (e .before .before)) (e .if2 .left)
+
+  sized : Sized (state .topology) (now (began .args .store))
+  sized = sound-sized state (began .pre .0) (now (began .args .store)) (began .pre .1)
+
+clear-requires : tie.Need-clear-requires
+clear-requires c κs = let fit = sized (c .before .before) in (fit .processes, fit .channels, fit .cells)
+
+-- the writes
+module _ (c : tie.After-clear) where
+  abbrev e : tie.Else2
+  e = c .before .before .before
+
+  written : c .clear .last .0
+      ≡ writeAll (now (began e .args .store)) (take (began e .args .budget) (effect (view (state e)) Begin .writes))
+  unfolding effect nextLine view
+  written = c .clear .ensures .store
+
+  many : length (effect (view (state e)) Begin .writes) ≡ state e .topology .processes + state e .topology .channels
+  unfolding effect view
+  many = clear-length (state e .topology) _
 
 returns-3 : tie.Need-returns-3
-unfolding effect inPhase withRound withCounts view accepted
 returns-3 c =
+    let p = c .before .before .before .before .before in
+    performs-lost (state (e p)) Begin _ _ (may (e p)) _ (written p) (rw (many p) (c .if3 .taken))
+
+returns-4 : tie.Need-returns-4
+unfolding effect inPhase withRound withCounts view
+returns-4 c =
     let p = c .before .before .before .before .before .before in
-    performs-done (b (e p) .args .s) Begin _ _ (done (e p)) (own (e p)) _ (written p) (rw (many p) (c .before .if2 .left)) _ _ (sym (many p))
-    (same-state refl refl refl refl refl refl (c .counts .ensures)) refl
+    performs-done (state (e p)) Begin _ _ (may (e p)) _ (written p) (rw (many p) (c .before .if3 .left)) _
+    (sym (many p)) refl _ (same-state refl refl refl refl refl refl (c .counts .ensures))
 
 pub begin-spec : {M : Type 1} → statement M
 begin-spec =
     tie.close
     (tie.spec
-    may-begin-requires
-    refusal-requires
+    (λ c κs. search needs)
     returns
-    add-clear
-    clear-requires
-    cast-writes
-    cast-writes-2
-    add-writes
-    same-length
     returns-2
-    counts-requires
-    same-length-2
-    returns-3)
+    (λ c. omega (arith, c .before .before .if2 .left))
+    clear-requires
+    (λ c. search needs)
+    (λ c. search needs)
+    (λ c. search needs)
+    (λ c. search needs)
+    returns-3
+    (λ c κs. search needs)
+    (λ c. search needs)
+    returns-4)

@@ -6,32 +6,25 @@ use denote.Ref.{now}
 use Rattle.model.specs.Layout.{messageLog, channelLog}
 use Rattle.model.proofs.store.Sizes.{Sized}
 use Rattle.model.proofs.store.Addresses.{in-store, count-within}
-use Rattle.engine.proofs.BeginCases.{clear-spent}
-use Rattle.engine.proofs.Layouts.{message-cell, channel-cell}
-use Rattle.engine.proofs.Stores.{spent-length}
+use Rattle.model.specs.Write.{clearWrites}
+use Rattle.engine.proofs.Clearing.{message-cell, channel-cell, messages-cleared, channels-cleared}
+use Rattle.engine.proofs.Stores.{spent-then, spent-length}
 use Rattle.engine.proofs.begin.clear.Statement.{statement}
 use Rattle.engine.proofs.begin.clear.Tie as tie
 
 sized : (c : tie.Start) → Sized (c .args .t) (now (c .args .store))
 sized c = record { processes = c .pre .0; channels = c .pre .1; cells = c .pre .2 }
 
-message-count-cell-requires : tie.Need-message-count-cell-requires
-message-count-cell-requires c κs = search needs
-
-cast-zeros : tie.Need-cast-zeros
-cast-zeros c = search needs
-
 zeros-requires : tie.Need-zeros-requires
 zeros-requires c κs = λ (i : ℕ) l.
     let f = c .before .before in
     let b = f .before .before in
-    omega (arith, f .message-count-cell .ensures, message-cell (b .args .line) i, in-store (sized b) _ _ (count-within (sized b) (b .args .line) (messageLog i) l))
-
-channel-count-cell-requires : tie.Need-channel-count-cell-requires
-channel-count-cell-requires c κs = search needs
-
-cast-zeros-2 : tie.Need-cast-zeros-2
-cast-zeros-2 c = search needs
+    omega (
+      arith,
+      f .message-count-cell .ensures,
+      message-cell (b .args .line) i,
+      in-store (sized b) _ _ (count-within (sized b) (b .args .line) (messageLog i) l),
+    )
 
 -- past the first run
 abbrev start : tie.After-zeros → tie.Start
@@ -50,27 +43,27 @@ zeros-requires-2 c κs = λ (i : ℕ) l.
       in-store (sized b) _ _ (count-within (sized b) (b .args .line) (channelLog i) l),
     )
 
-same-length : tie.Need-same-length
-same-length c = search needs
-
 returns : tie.Need-returns
+unfolding clearWrites
 returns c =
     let y = c .before .before in
     let f = y .before .before .before in
     let z = f .before .before .before in
-    clear-spent (start z .args .t) (start z .args .line) (z .before .before .before .message-count-cell .ensures) (f .channel-count-cell .ensures)
-    (z .zeros .ensures)
-    (y .zeros2 .ensures)
+    let a = start z .args in
+    spent-then
+    (messages-cleared (a .line) (a .t .processes) (z .before .before .before .message-count-cell .ensures)
+    (z .zeros .ensures))
+    (channels-cleared (a .line) (a .t .channels) (f .channel-count-cell .ensures) (y .zeros2 .ensures))
 
 pub clear-spec : {M : Type 1} → statement M
 clear-spec =
     tie.close
     (tie.spec
-    message-count-cell-requires
-    cast-zeros
+    (λ c κs. search needs)
+    (λ c. search needs)
     zeros-requires
-    channel-count-cell-requires
-    cast-zeros-2
+    (λ c κs. search needs)
+    (λ c. search needs)
     zeros-requires-2
-    same-length
+    (λ c. search needs)
     returns)

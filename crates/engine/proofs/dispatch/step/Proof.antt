@@ -1,4 +1,5 @@
--- `engine::step` meets its contract: refusals 15 and 6 first, and then each arm hands on what its step's function promises.
+-- `engine::step` meets its contract: refusals 15 and 6 first, and then each arm hands on what its step's function
+-- promises.
 use Prim.Native.Nat.{ℕ, _≤_}
 use mathlib.Core.Path.{_≡_, sym, subst, _∙_}
 use mathlib.Core.Bool.{true}
@@ -10,168 +11,127 @@ use borrow.Author.Tests.{not-true, not-false}
 use Rattle.model.specs.declared.State.{State}
 use Rattle.model.specs.declared.Step.{Step}
 use Rattle.model.specs.declared.Answer.{Answer}
-use Rattle.model.specs.declared.Refusal.the-variants.{Unsound, ShortStore}
 use Rattle.model.specs.Layout.{storeCells}
 use Rattle.model.specs.State.{view}
 use Rattle.model.specs.Sound.{sound}
 use Rattle.engine.specs.Answers.{Answers, Performs, Quiet}
-use Rattle.engine.proofs.Promises.{answers-refused, step-unsound, step-short, performs-answers, quiet-meets}
+use Rattle.engine.proofs.Promises.{step-unsound, step-short, step-own, quiet-performs}
 use Rattle.engine.proofs.dispatch.step.Statement.{statement}
 use Rattle.engine.proofs.dispatch.step.Tie as tie
 
--- behind both refusals: the state, the step, the store and the budget that the function was given
-abbrev S : tie.Else2 → State
-S d = d .before .before .before .before .args .state
+-- behind both refusals
+module _ (d : tie.Else2) where
+  abbrev start : tie.Start
+  start = d .before .before .before .before
 
-abbrev X : tie.Else2 → Step
-X d = d .before .before .before .before .args .step
+  abbrev s : State
+  s = start .args .state
 
-abbrev M : tie.Else2 → List ℕ
-M d = now (d .before .before .before .before .args .store)
+  abbrev before : List ℕ
+  before = now (start .args .store)
 
-abbrev B : tie.Else2 → ℕ
-B d = d .before .before .before .before .args .budget
+  sounds : sound (view s) ≡ true
+  sounds = sym (d .before .before .sound .ensures) ∙ not-false _ (d .before .if1 .left)
 
-sounds : (d : tie.Else2) → sound (view (S d)) ≡ true
-sounds d = sym (d .before .before .sound .ensures) ∙ not-false _ (d .before .if1 .left)
+  -- an arm of the match
+  arm : (x : Step) → start .args .step ≡ x → (r : Answer) (after : List ℕ)
+      → Performs s x before (start .args .budget) r after
+      → Answers s (start .args .step) before (start .args .budget) r after
+  arm x e r after p =
+      subst (λ (y : Step). Answers s y before (start .args .budget) r after) (sym e)
+      (step-own s x before (start .args .budget) sounds (d .if2 .left) r after p)
 
-long : (d : tie.Else2) → storeCells ≤ length (M d)
-unfolding storeCells
-long d = d .if2 .left
+  quiet-arm : (x : Step) → start .args .step ≡ x → (r : Answer) → Quiet s x r
+      → Answers s (start .args .step) before (start .args .budget) r before
+  quiet-arm x e r q = arm x e r before (quiet-performs s x before (start .args .budget) r q)
 
--- an arm of the match
-arm : (d : tie.Else2) (x : Step) → X d ≡ x → (r : Answer) (after : List ℕ) → Performs (S d) x (M d) (B d) r after → Answers (S d) (X d) (M d) (B d) r after
-arm d x e r after p = subst (λ (y : Step). Answers (S d) y (M d) (B d) r after) (sym e) (performs-answers (S d) x (M d) (B d) r after (sounds d) (long d) p)
-
-quiet-arm : (d : tie.Else2) (x : Step) → X d ≡ x → (r : Answer) → Quiet (S d) x r → Answers (S d) (X d) (M d) (B d) r (M d)
-quiet-arm d x e r q = arm d x e r (M d) (quiet-meets (S d) x r (M d) (B d) q)
-
-sound-requires : tie.Need-sound-requires
-sound-requires c κs = search needs
+  needed : (sound (view s) ≡ true) × (storeCells ≤ length before)
+  needed = (sounds, d .if2 .left)
 
 returns : tie.Need-returns
-returns c = answers-refused _ _ _ _ Unsound (step-unsound _ _ _ (sym (c .before .sound .ensures) ∙ not-true _ (c .if1 .taken)))
+returns c = step-unsound _ _ _ _ (sym (c .before .sound .ensures) ∙ not-true _ (c .if1 .taken))
 
 returns-2 : tie.Need-returns-2
-unfolding storeCells
-returns-2 c = answers-refused _ _ _ _ ShortStore (step-short _ _ _ (sym (c .before .before .sound .ensures) ∙ not-false _ (c .before .if1 .left)) (c .if2 .taken))
-
-enum-known-step : tie.Need-enum-known-step
-enum-known-step c = search needs
-
-send-requires : tie.Need-send-requires
-send-requires c κs = sounds (c .before .before .before)
-
-enum-known-step-2 : tie.Need-enum-known-step-2
-enum-known-step-2 c = search needs
-
-receive-requires : tie.Need-receive-requires
-receive-requires c κs = (sounds (c .before .before .before .before), long (c .before .before .before .before))
-
-enum-told : tie.Need-enum-told
-enum-told c = search needs
-
-begin-requires : tie.Need-begin-requires
-begin-requires c κs = (sounds (c .before .before .before), long (c .before .before .before))
-
-enum-known-step-3 : tie.Need-enum-known-step-3
-enum-known-step-3 c = search needs
-
-physical-checkpoint-requires : tie.Need-physical-checkpoint-requires
-physical-checkpoint-requires c κs = (sounds (c .before .before .before .before), long (c .before .before .before .before))
-
-enum-known-step-4 : tie.Need-enum-known-step-4
-enum-known-step-4 c = search needs
-
-logical-checkpoint-requires : tie.Need-logical-checkpoint-requires
-logical-checkpoint-requires c κs = sounds (c .before .before .before)
-
-enum-known-step-5 : tie.Need-enum-known-step-5
-enum-known-step-5 c = search needs
-
-send-marker-requires : tie.Need-send-marker-requires
-send-marker-requires c κs = sounds (c .before .before .before)
-
-enum-told-2 : tie.Need-enum-told-2
-enum-told-2 c = search needs
-
-commit-requires : tie.Need-commit-requires
-commit-requires c κs = (sounds (c .before .before .before), long (c .before .before .before))
-
-enum-told-3 : tie.Need-enum-told-3
-enum-told-3 c = search needs
-
-abort-requires : tie.Need-abort-requires
-abort-requires c κs = sounds (c .before .before)
+returns-2 c =
+    let d = c .before in
+    step-short _ _ _ _ (sym (d .before .sound .ensures) ∙ not-false _ (d .if1 .left)) (c .if2 .taken)
 
 returns-3 : tie.Need-returns-3
-returns-3 c = quiet-arm (c .before .before .before .before) _ (c .before .before .step .given .1) _ (c .send .ensures)
-
-same-length : tie.Need-same-length
-same-length c = search needs
+returns-3 c =
+    let known = c .before .before in
+    quiet-arm (known .before .before) _ (known .step .given .1) _ (c .send .ensures)
 
 returns-4 : tie.Need-returns-4
-returns-4 c = arm (c .before .before .before .before .before .before .before) _ (c .before .before .before .before .before .step2 .given .1) _ _ (c .before .before .receive .ensures)
-
-same-length-2 : tie.Need-same-length-2
-same-length-2 c = search needs
+returns-4 c =
+    let done = c .before .before in
+    let known = done .before .before .before in
+    arm (known .before .before) _ (known .step2 .given .1) _ _ (done .receive .ensures)
 
 returns-5 : tie.Need-returns-5
-returns-5 c = arm (c .before .before .before .before .before .before) _ (c .before .before .before .before .enum-told .given .1) _ _ (c .before .before .begin .ensures)
-
-same-length-3 : tie.Need-same-length-3
-same-length-3 c = search needs
+returns-5 c =
+    let done = c .before .before in
+    let told = done .before .before in
+    arm (told .before .before) _ (told .enum-told .given .1) _ _ (done .begin .ensures)
 
 returns-6 : tie.Need-returns-6
-returns-6 c = arm (c .before .before .before .before .before .before .before) _ (c .before .before .before .before .before .step3 .given .1) _ _ (c .before .before .physical-checkpoint .ensures)
+returns-6 c =
+    let done = c .before .before in
+    let known = done .before .before .before in
+    arm (known .before .before) _ (known .step3 .given .1) _ _ (done .physical-checkpoint .ensures)
 
 returns-7 : tie.Need-returns-7
-returns-7 c = quiet-arm (c .before .before .before .before) _ (c .before .before .step4 .given .1) _ (c .logical-checkpoint .ensures)
+returns-7 c =
+    let known = c .before .before in
+    quiet-arm (known .before .before) _ (known .step4 .given .1) _ (c .logical-checkpoint .ensures)
 
 returns-8 : tie.Need-returns-8
-returns-8 c = quiet-arm (c .before .before .before .before) _ (c .before .before .step5 .given .1) _ (c .send-marker .ensures)
-
-same-length-4 : tie.Need-same-length-4
-same-length-4 c = search needs
+returns-8 c =
+    let known = c .before .before in
+    quiet-arm (known .before .before) _ (known .step5 .given .1) _ (c .send-marker .ensures)
 
 returns-9 : tie.Need-returns-9
-returns-9 c = arm (c .before .before .before .before .before .before) _ (c .before .before .before .before .enum-told2 .given .1) _ _ (c .before .before .commit .ensures)
+returns-9 c =
+    let done = c .before .before in
+    let told = done .before .before in
+    arm (told .before .before) _ (told .enum-told2 .given .1) _ _ (done .commit .ensures)
 
 returns-10 : tie.Need-returns-10
-returns-10 c = quiet-arm (c .before .before .before) _ (c .before .enum-told3 .given .1) _ (c .abort .ensures)
+returns-10 c =
+    let told = c .before in
+    quiet-arm (told .before .before) _ (told .enum-told3 .given .1) _ (c .abort .ensures)
 
 pub step-spec : {M : Type 1} → statement M
 step-spec =
     tie.close
     (tie.spec
-    sound-requires
+    (λ c κs. search needs)
     returns
     returns-2
-    enum-known-step
-    send-requires
-    enum-known-step-2
-    receive-requires
-    enum-told
-    begin-requires
-    enum-known-step-3
-    physical-checkpoint-requires
-    enum-known-step-4
-    logical-checkpoint-requires
-    enum-known-step-5
-    send-marker-requires
-    enum-told-2
-    commit-requires
-    enum-told-3
-    abort-requires
+    (λ c. search needs)
+    (λ c κs. sounds (c .before .before .before))
+    (λ c. search needs)
+    (λ c κs. needed (c .before .before .before .before))
+    (λ c. search needs)
+    (λ c κs. needed (c .before .before .before))
+    (λ c. search needs)
+    (λ c κs. needed (c .before .before .before .before))
+    (λ c. search needs)
+    (λ c κs. sounds (c .before .before .before))
+    (λ c. search needs)
+    (λ c κs. sounds (c .before .before .before))
+    (λ c. search needs)
+    (λ c κs. needed (c .before .before .before))
+    (λ c. search needs)
+    (λ c κs. sounds (c .before .before))
     returns-3
-    same-length
+    (λ c. search needs)
     returns-4
-    same-length-2
+    (λ c. search needs)
     returns-5
-    same-length-3
+    (λ c. search needs)
     returns-6
     returns-7
     returns-8
-    same-length-4
+    (λ c. search needs)
     returns-9
     returns-10)

@@ -1,83 +1,99 @@
 -- `engine::logical_checkpoint::logical_checkpoint` meets its contract, in each of its cases.
 use borrow.Author.Needs.{needs}
-use borrow.Author.Tests.{eq-eqb, ne-eqb, not-true, not-false}
+use borrow.Author.Tests.{lt-ltb, le-ltb, not-true, not-false}
 use native.Mathlib.Omega.{arith}
-use Prim.Native.Nat.{_<_}
-use mathlib.Core.Path.{_≡_, refl, sym, _∙_}
-use mathlib.Core.Bool.{false, _||_}
-use mathlib.Core.Logic.{⊎-elim}
-use lib.ListN.{getD}
-use lib.Dec.{eqb}
+use Prim.Native.Nat.{ℕ, _<_, _≤_}
+use mathlib.Core.Path.{_≡_, refl}
+use mathlib.Core.Bool.{true, false}
+use mathlib.Core.Option.{none, some}
+use Rattle.model.specs.declared.State.{State}
+use Rattle.model.specs.declared.Step.the-variants.{LogicalCheckpoint}
+use Rattle.model.specs.declared.Refusal.the-variants.{NoSuch, NotNow}
+use Rattle.model.specs.Check.{firstRefusal}
+use Rattle.model.specs.Topology.{processLimit, hasProcess}
 use Rattle.model.specs.State.{viewProgress, view}
-use Rattle.model.specs.Outcome.{accepted}
-use Rattle.model.specs.Step.{mayCheckpoint}
-use Rattle.engine.proofs.Bounds.{size-bounds}
+use Rattle.model.specs.Step.{mayCheckpointLogically, priorChecks, roomChecks, logChecks, ownChecks, effect}
+use Rattle.engine.proofs.Bounds.{sizes-fit}
 use Rattle.engine.proofs.Lengths.{lengths}
-use Rattle.engine.proofs.Views.{checkpoint-set}
-use Rattle.engine.proofs.LogicalCheckpointCases.{checkpoint-no-such, checkpoint-not-now, checkpoint-done}
+use Rattle.engine.proofs.Views.{logical-set}
 use Rattle.engine.proofs.Promises.{quiet-refused, quiet-done}
 use Rattle.engine.proofs.logical_checkpoint.logical_checkpoint.Statement.{statement}
 use Rattle.engine.proofs.logical_checkpoint.logical_checkpoint.Tie as tie
 
--- process 0 before the rest
-in-turn : (c : tie.Joined2)
-    → let a = c .before .before .before .before .before .before .args in c .if2 .in-turn ≡ (eqb (a .process) 0 || getD (a .t1 .flags .checkpointed) 0 false)
-in-turn c = ⊎-elim (λ w. w .1 ∙ rw (eq-eqb _ _ (w .0 .taken))) (λ w. w .2 ∙ rw (ne-eqb _ _ (w .0 .left))) (c .if2 .came)
+-- what its checks say
+module _ (s : State) (p : ℕ) where
+  missing : s .topology .processes ≤ p → firstRefusal (ownChecks (view s) (LogicalCheckpoint p)) ≡ some NoSuch
+  unfolding ownChecks priorChecks roomChecks logChecks hasProcess firstRefusal view
+  missing l = rw (le-ltb p (s .topology .processes) l)
 
--- what the code asks is what the definition asks
-asked : (c : tie.After-allows) → let a = c .before .before .before .before .before .before .before .before .args in c .allows .result ≡ mayCheckpoint (view (a .t1)) (a .process)
-unfolding mayCheckpoint view viewProgress
-asked c = rw (in-turn (c .before .before)) at (c .allows .ensures)
+  -- of a process of the topology
+  module _ (l : p < s .topology .processes) where
+    not-now : mayCheckpointLogically (view s) p ≡ false
+        → firstRefusal (ownChecks (view s) (LogicalCheckpoint p)) ≡ some NotNow
+    unfolding ownChecks priorChecks roomChecks logChecks hasProcess firstRefusal view
+    not-now t = rw (lt-ltb p (s .topology .processes) l, t)
+
+    passed : mayCheckpointLogically (view s) p ≡ true → firstRefusal (ownChecks (view s) (LogicalCheckpoint p)) ≡ none
+    unfolding ownChecks priorChecks roomChecks logChecks hasProcess firstRefusal view
+    passed t = rw (lt-ltb p (s .topology .processes) l, t)
+
+-- a planned process is one of the arrays
+module _ (d : tie.Else1) where
+  abbrev start : tie.Start
+  start = d .before .before .before
+
+  abbrev state : State
+  state = start .args .t1
+
+  abbrev process : ℕ
+  process = start .args .process
+
+  below : process < processLimit
+  below = omega (arith, d .if1 .left, sizes-fit _ (start .pre) .processes)
 
 returns : tie.Need-returns
-returns c = let a = c .before .before .before .args in quiet-refused (a .t1) _ _ (checkpoint-no-such (a .t1) (a .process) (c .if1 .taken))
+returns c =
+    let a = c .before .before .before .args in
+    quiet-refused (a .t1) _ _ (missing (a .t1) (a .process) (c .if1 .taken))
 
-element-copy-out-in-turn : tie.Need-element-copy-out-in-turn
-element-copy-out-in-turn c = search needs
+-- once it was asked whether the process may have it
+abbrev planned : tie.After-may → tie.Else1
+planned m = m .before .before .before .before .before
 
-element-copy-out-allows : tie.Need-element-copy-out-allows
-element-copy-out-allows c = omega (arith, size-bounds _ (c .before .before .before .before .before .before .pre) .0)
+refused : (c : tie.Then2)
+    → mayCheckpointLogically (view (state (planned (c .before)))) (process (planned (c .before))) ≡ false
+unfolding mayCheckpointLogically view viewProgress
+refused c = rw (← (c .before .before .is-logical .ensures)) (not-true _ (c .if2 .taken))
 
-allows-requires : tie.Need-allows-requires
-allows-requires c κs = search needs
+allowed : (c : tie.Else2)
+    → mayCheckpointLogically (view (state (planned (c .before)))) (process (planned (c .before))) ≡ true
+unfolding mayCheckpointLogically view viewProgress
+allowed c = rw (← (c .before .before .is-logical .ensures)) (not-false _ (c .if2 .left))
 
 returns-2 : tie.Need-returns-2
 returns-2 c =
-    let a = c .before .before .before .before .before .before .before .before .before .args in
-    quiet-refused (a .t1) _ _
-    (checkpoint-not-now (a .t1) (a .process) (omega arith) (sym (asked (c .before)) ∙ not-true _ (c .if3 .taken)))
-
-element-write-f : tie.Need-element-write-f
-element-write-f c = omega (arith, size-bounds _ (c .before .before .before .before .before .before .before .before .before .pre) .0)
-
-element-copy-out-s : tie.Need-element-copy-out-s
-element-copy-out-s c = omega (arith, size-bounds _ (c .before .before .before .before .before .before .before .before .before .pre) .0)
-
-element-write-s : tie.Need-element-write-s
-element-write-s c = omega (arith, size-bounds _ (c .before .before .before .before .before .before .before .before .before .before .pre) .0)
+    let d = planned (c .before) in
+    quiet-refused (state d) _ _ (not-now (state d) (process d) (d .if1 .left) (refused c))
 
 returns-3 : tie.Need-returns-3
-unfolding accepted
+unfolding effect
 returns-3 c =
-    let s = c .before .before .before .before .before .before .before .before .before .before in
-    let a = s .args in
-    let n = lengths (a .t1) _ (s .good .0) in
-    let l : a .process < 16 = omega (arith, size-bounds _ (s .pre) .0) in
-    quiet-done (a .t1) _ _ _ _
-    (checkpoint-done (a .t1) (a .process) (omega arith) (sym (asked (c .before .before)) ∙ not-false _ (c .before .if3 .left)))
-    (checkpoint-set (a .t1) (a .process) (omega arith) (omega arith))
-    refl
+    let d = planned (c .before .before) in
+    let l = below d in
+    let n = lengths (state d) _ (start d .good .0) in
+    quiet-done (state d) _ (passed (state d) (process d) (d .if1 .left) (allowed (c .before))) _ refl _
+    (logical-set (state d) (process d) (omega arith) (omega arith))
 
 pub logical-checkpoint-spec : {M : Type 1} → statement M
 logical-checkpoint-spec =
     tie.close
     (tie.spec
     returns
-    element-copy-out-in-turn
-    element-copy-out-allows
-    allows-requires
+    (λ c. search needs)
+    (λ c κs. search needs)
+    (λ c. below (c .before .before .before .before))
     returns-2
-    element-write-f
-    element-copy-out-s
-    element-write-s
+    (λ c. below (planned (c .before)))
+    (λ c. omega (arith, below (planned (c .before))))
+    (λ c. below (planned (c .before .before)))
     returns-3)

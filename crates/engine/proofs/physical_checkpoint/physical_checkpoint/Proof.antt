@@ -1,173 +1,178 @@
--- `engine::physical_checkpoint::physical_checkpoint` meets its contract: refused where the process is not the next one, else its word is written, and
--- then the next process's turn or the logical phase comes.
-use Prim.Native.Nat.{_+_, _<_, _≤_}
+-- `engine::physical_checkpoint::physical_checkpoint` meets its contract: refused where the process is not the next one,
+-- else its word is written, and then the next process's turn or the logical phase comes.
+use Prim.Native.Nat.{ℕ, _+_, _<_, _≤_}
 use mathlib.Core.Path.{_≡_, sym, refl, _∙_}
-use mathlib.Core.Bool.{true}
+use mathlib.Core.Bool.{true, false}
+use mathlib.Core.Option.{none, some}
 use native.Mathlib.Omega.{arith}
 use borrow.Author.Needs.{needs}
 use borrow.Author.Tests.{not-true, not-false, lt-ltb, le-ltb}
 use denote.Ref.{now}
 use lib.ListN.{take}
+use Rattle.model.specs.declared.Phase.{Phase}
+use Rattle.model.specs.declared.Phase.the-variants.{Idle, Physical, Logical}
+use Rattle.model.specs.declared.State.{State}
 use Rattle.model.specs.declared.Step.{Step}
 use Rattle.model.specs.declared.Step.the-variants.{PhysicalCheckpoint}
+use Rattle.model.specs.declared.Refusal.the-variants.{NoSuch, NotNow}
+use Rattle.model.specs.Check.{firstRefusal}
+use Rattle.model.specs.Topology.{processLimit, hasProcess}
+use Rattle.model.specs.Phase.{isIdle, isNext}
 use Rattle.model.specs.State.{view}
-use Rattle.model.specs.Write.{Result, writeAll, checkpointWrites}
+use Rattle.model.specs.Write.{writeAll, physicalWrites}
 use Rattle.model.specs.Change.{inPhase, withRound, withProgress}
-use Rattle.model.specs.Outcome.{accepted}
-use Rattle.model.specs.Step.{isNext, nextLine, effect}
+use Rattle.model.specs.Step.{priorChecks, roomChecks, logChecks, ownChecks, nextLine, afterPhysical, effect}
+use Rattle.model.proofs.laws.Tests.{true-is-not-false}
 use Rattle.model.proofs.store.Sizes.{Sized}
-use Rattle.model.proofs.store.Addresses.{in-store, checkpoint-within}
-use Rattle.engine.specs.Answers.{ownResult}
-use Rattle.engine.proofs.StoreBounds.{sound-sized, next-line-fits}
+use Rattle.model.proofs.store.Addresses.{in-store, physical-within}
+use Rattle.engine.proofs.Bounds.{sound-sized, next-line-fits}
 use Rattle.engine.proofs.Views.{same-state}
 use Rattle.engine.proofs.Promises.{performs-refused, performs-lost, performs-done}
-use Rattle.engine.proofs.PhysicalCheckpointCases.{next-busy, checkpoint-refused, checkpoint-planned, checkpoint-done, checkpoint-more, checkpoint-last}
 use Rattle.engine.proofs.physical_checkpoint.physical_checkpoint.Statement.{statement}
 use Rattle.engine.proofs.physical_checkpoint.physical_checkpoint.Tie as tie
 
-abbrev start : tie.After-is-next → tie.Start
-start c = c .before .before .before .before
+-- what its checks say
+module _ (s : State) (p : ℕ) where
+  missing : s .topology .processes ≤ p → firstRefusal (ownChecks (view s) (PhysicalCheckpoint p)) ≡ some NoSuch
+  unfolding ownChecks priorChecks roomChecks logChecks hasProcess firstRefusal view
+  missing l = rw (le-ltb p (s .topology .processes) l)
 
-decided : (c : tie.After-is-next) → isNext (view (start c .args .t1) .round .phase) (start c .args .process) ≡ c .is-next .result
-unfolding view
-decided c = sym (c .is-next .ensures)
+  module _ (l : p < s .topology .processes) where
+    not-now : isNext (s .round .phase) p ≡ false
+        → firstRefusal (ownChecks (view s) (PhysicalCheckpoint p)) ≡ some NotNow
+    unfolding ownChecks priorChecks roomChecks logChecks hasProcess firstRefusal view
+    not-now e = rw (lt-ltb p (s .topology .processes) l, e)
 
-is-next-requires : tie.Need-is-next-requires
-is-next-requires c κs = search needs
+    passed : isNext (s .round .phase) p ≡ true → firstRefusal (ownChecks (view s) (PhysicalCheckpoint p)) ≡ none
+    unfolding ownChecks priorChecks roomChecks logChecks hasProcess firstRefusal view
+    passed e = rw (lt-ltb p (s .topology .processes) l, e)
 
-refusal-requires : tie.Need-refusal-requires
-refusal-requires c κs = search needs
+-- a process's turn is in a round under way
+next-busy : (phase : Phase) (p : ℕ) → isNext phase p ≡ true → isIdle phase ≡ false
+next-busy Idle p e = true-is-not-false e refl
+next-busy (Physical next) p e = refl
+next-busy Logical p e = refl
+
+-- a planned process
+abbrev start : tie.Else1 → tie.Start
+start d = d .before .before .before .before
 
 returns : tie.Need-returns
-unfolding view
 returns c =
-    let b = c .before .before in
-    performs-refused (start b .args .t1) (PhysicalCheckpoint (start b .args .process)) _ _ (c .refusal .result)
-    (rw (c .refusal .ensures) (checkpoint-refused (view (start b .args .t1)) (start b .args .process) (decided b ∙ not-true _ (c .before .if1 .taken))))
+    let a = c .before .before .before .before .args in
+    performs-refused (a .t1) _ _ _ NoSuch (missing (a .t1) (a .process) (c .if1 .taken))
 
--- the process is the next one
-module _ (c : tie.Else1) where
-  abbrev b : tie.Start
-  b = start (c .before)
+returns-2 : tie.Need-returns-2
+returns-2 c =
+    let asked = c .before in
+    let d = asked .before .before in
+    let a = start d .args in
+    performs-refused (a .t1) _ _ _ NotNow
+    (not-now (a .t1) (a .process) (d .if1 .left) (sym (asked .is-next .ensures) ∙ not-true _ (c .if2 .taken)))
 
-  sized : Sized (b .args .t1 .topology) (now (b .args .store))
-  unfolding view
-  sized = sound-sized (view (b .args .t1)) (b .pre .0) (now (b .args .store)) (b .pre .1)
+-- it is the next one
+module _ (e : tie.Else2) where
+  abbrev planned : tie.Else1
+  planned = e .before .before .before
 
-  is-next : isNext (view (b .args .t1) .round .phase) (b .args .process) ≡ true
-  is-next = decided (c .before) ∙ not-false _ (c .if1 .left)
+  abbrev began : tie.Start
+  began = start planned
 
-  planned : b .args .process < b .args .t1 .topology .processes
-  unfolding view
-  planned = checkpoint-planned (view (b .args .t1)) (b .args .process) (b .pre .0) is-next
+  abbrev state : State
+  state = began .args .t1
 
-  below-16 : b .args .process < 16
-  below-16 = omega (arith, planned, sized .processes)
+  abbrev process : ℕ
+  process = began .args .process
 
-  abbrev step : Step
-  step = PhysicalCheckpoint (b .args .process)
+  sized : Sized (state .topology) (now (began .args .store))
+  sized = sound-sized state (began .pre .0) (now (began .args .store)) (began .pre .1)
 
-  abbrev done : Result
-  done = effect (view (b .args .t1)) step
+  below : process < processLimit
+  below = omega (arith, planned .if1 .left, sized .processes)
 
-  own : ownResult (view (b .args .t1)) step ≡ done
-  own = checkpoint-done (view (b .args .t1)) (b .args .process) (b .pre .0) is-next
+  next : isNext (state .round .phase) process ≡ true
+  next = sym (e .before .is-next .ensures) ∙ not-false _ (e .if2 .left)
 
-add-checkpoint-cell : tie.Need-add-checkpoint-cell
-unfolding view nextLine
-add-checkpoint-cell c =
+  may : firstRefusal (ownChecks (view state) (PhysicalCheckpoint process)) ≡ none
+  may = passed state process (planned .if1 .left) next
+
+add-physical-cell : tie.Need-add-physical-cell
+add-physical-cell c =
     let e = c .before in
-    omega (arith, next-line-fits (view (b e .args .t1)) (b e .pre .0) (next-busy _ _ (is-next e)) (omega arith))
-
-checkpoint-cell-requires : tie.Need-checkpoint-cell-requires
-checkpoint-cell-requires c κs = search needs
-
-mul-word : tie.Need-mul-word
-mul-word c = search needs
-
-element-copy-out-word : tie.Need-element-copy-out-word
-element-copy-out-word c = below-16 (c .before .before)
+    let busy = next-busy (state e .round .phase) (process e) (next e) in
+    omega (arith, next-line-fits (state e) (began e .pre .0) busy (omega arith))
 
 put-requires : tie.Need-put-requires
 put-requires c κs =
-    let e = c .before .before .before .before in
-    rw (c .before .before .checkpoint-cell .ensures) (in-store (sized e) _ _ (checkpoint-within (sized e) _ _ (planned e)))
-
-same-length : tie.Need-same-length
-same-length c = search needs
+    let cell = c .before .before in
+    let e = cell .before .before in
+    rw (cell .physical-cell .ensures) (in-store (sized e) _ _ (physical-within (sized e) _ _ (planned e .if1 .left)))
 
 -- the write
-abbrev allowed : tie.After-put → tie.Else1
-allowed c = c .before .before .before .before .before
+module _ (c : tie.After-put) where
+  abbrev e : tie.Else2
+  e = c .before .before .before .before .before
 
-written : (c : tie.After-put) → c .put .last .0 ≡ writeAll (now (b (allowed c) .args .store)) (take (b (allowed c) .args .budget) (done (allowed c) .writes))
-unfolding effect checkpointWrites nextLine view
-written c = rw (c .before .before .before .checkpoint-cell .ensures) at (c .put .ensures .store)
+  abbrev step : Step
+  step = PhysicalCheckpoint (process e)
 
-returns-2 : tie.Need-returns-2
-unfolding effect checkpointWrites
-returns-2 c =
-    let p = c .before .before .before in
-    let e = allowed p in
-    performs-lost (b e .args .t1) (step e) _ _ (done e) (own e) _ (written p) (c .if2 .taken)
-
-round-after-requires : tie.Need-round-after-requires
-round-after-requires c κs = below-16 (allowed (c .before .before .before))
-
-add-if3 : tie.Need-add-if3
-add-if3 c = omega (arith, below-16 (allowed (c .before .before .before .before)))
-
-flags-requires : tie.Need-flags-requires
-flags-requires c κs = search needs
-
-same-length-2 : tie.Need-same-length-2
-same-length-2 c = search needs
+  written : c .put .last .0
+      ≡ writeAll (now (began e .args .store)) (take (began e .args .budget) (effect (view (state e)) step .writes))
+  unfolding effect physicalWrites nextLine view
+  written = rw (c .before .before .before .physical-cell .ensures) at (c .put .ensures .store)
 
 returns-3 : tie.Need-returns-3
-unfolding effect checkpointWrites inPhase withRound withProgress view accepted
+unfolding effect physicalWrites
 returns-3 c =
-    let r = c .before .before .before in
-    let p = r .before .before .before .before in
-    let e = allowed p in
-    let l : b e .args .t1 .topology .processes ≤ b e .args .process + 1 = c .before .if3 .taken in
-    performs-done (b e .args .t1) (step e) _ _ (done e) (own e) _ (written p) (r .before .if2 .left) 1 _ refl
-    (same-state refl (rw (le-ltb _ _ l) at (r .round-after .ensures)) refl refl refl (c .flags .ensures) refl
-    ∙ sym (checkpoint-last (view (b e .args .t1)) (b e .args .process) l))
-    refl
+    let p = c .before .before .before in
+    performs-lost (state (e p)) (step p) _ _ (may (e p)) _ (written p) (c .if3 .taken)
 
-same-length-3 : tie.Need-same-length-3
-same-length-3 c = search needs
+-- the power lasted
+abbrev lasted : tie.Else3 → tie.After-put
+lasted d = d .before .before .before
 
+-- the round after it
+abbrev rounded : tie.After-round-after → tie.After-put
+rounded q = lasted (q .before)
+
+-- the logical phase comes
 returns-4 : tie.Need-returns-4
-unfolding effect checkpointWrites inPhase withRound view accepted
+unfolding effect physicalWrites afterPhysical inPhase withRound withProgress view
 returns-4 c =
-    let r = c .before .before in
-    let p = r .before .before .before .before in
-    let e = allowed p in
-    let l : b e .args .process + 1 < b e .args .t1 .topology .processes = c .if3 .left in
-    performs-done (b e .args .t1) (step e) _ _ (done e) (own e) _ (written p) (r .before .if2 .left) 1 _ refl
-    (same-state refl (rw (lt-ltb _ _ l) at (r .round-after .ensures)) refl refl refl refl refl
-    ∙ sym (checkpoint-more (view (b e .args .t1)) (b e .args .process) l))
-    refl
+    let q = c .before .before .before in
+    let p = rounded q in
+    let l = le-ltb (process (e p) + 1) (state (e p) .topology .processes) (c .before .if4 .taken) in
+    performs-done (state (e p)) (step p) _ _ (may (e p)) _ (written p) (q .before .if3 .left) 1 refl refl _
+    (rw l (same-state refl (rw l at (q .round-after .ensures)) refl refl refl (c .flags .ensures) refl))
+
+-- or the next process's turn
+returns-5 : tie.Need-returns-5
+unfolding effect physicalWrites afterPhysical inPhase withRound view
+returns-5 c =
+    let q = c .before .before in
+    let p = rounded q in
+    let l = lt-ltb (process (e p) + 1) (state (e p) .topology .processes) (c .if4 .left) in
+    performs-done (state (e p)) (step p) _ _ (may (e p)) _ (written p) (q .before .if3 .left) 1 refl refl _
+    (rw l (same-state refl (rw l at (q .round-after .ensures)) refl refl refl refl refl))
 
 pub physical-checkpoint-spec : {M : Type 1} → statement M
 physical-checkpoint-spec =
     tie.close
     (tie.spec
-    is-next-requires
-    refusal-requires
     returns
-    add-checkpoint-cell
-    checkpoint-cell-requires
-    mul-word
-    element-copy-out-word
-    put-requires
-    same-length
+    (λ c κs. search needs)
     returns-2
-    round-after-requires
-    add-if3
-    flags-requires
-    same-length-2
+    add-physical-cell
+    (λ c κs. search needs)
+    (λ c. search needs)
+    (λ c. below (c .before .before))
+    put-requires
+    (λ c. search needs)
     returns-3
-    same-length-3
-    returns-4)
+    (λ c κs. below (e (lasted c)))
+    (λ c. omega (arith, below (e (rounded c))))
+    (λ c κs. search needs)
+    (λ c. search needs)
+    returns-4
+    (λ c. search needs)
+    returns-5)

@@ -1,217 +1,183 @@
--- `engine::receive::receive` meets its contract: no such channel, an attempt that was stopped, or one that came off, after which every part of the
--- state is as the definition has it.
+-- `engine::receive::receive` meets its contract: no such channel, an attempt that was stopped, or one that came off,
+-- after which every part of the state is as the definition has it.
 use borrow.Author.Needs.{needs}
+use borrow.Author.Tests.{not-true, not-false}
 use native.Mathlib.Omega.{arith}
-use Prim.Native.Nat.{ℕ, zero, suc, _<_}
-use mathlib.Core.Path.{_≡_, refl, sym, ap, _∙_}
-use mathlib.Core.List.{_∷_}
-use lib.ListN.{getD, drop}
+use Prim.Native.Nat.{ℕ, _<_}
+use mathlib.Core.Path.{_≡_, refl}
+use mathlib.Core.Bool.{Bool}
+use lib.ListN.{length, getD}
 use Rattle.model.specs.declared.State.{State}
-use Rattle.model.specs.declared.Channel.{Channel}
 use Rattle.model.specs.declared.Entry.{Entry}
-use Rattle.model.specs.Notation.{tabulate}
-use Rattle.model.specs.Topology.{receiver}
+use Rattle.model.specs.Topology.{processLimit, channelLimit, receiver}
 use Rattle.model.specs.Channel.{entries}
-use Rattle.model.specs.State.{view, viewProgress, viewCounts}
-use Rattle.model.specs.Step.{nextLine}
-use Rattle.engine.specs.Receiving.{Within, firstly, countsAfter}
-use Rattle.engine.proofs.Lengths.{lengths}
-use Rattle.engine.proofs.StoreBounds.{next-line-fits}
+use Rattle.model.specs.State.{view, viewProgress}
+use Rattle.model.specs.Step.{reaction}
+use Rattle.rules.specs.declared.reaction.Reaction.{Reaction}
+use Rattle.rules.specs.Reacting.{viewReaction}
+use Rattle.engine.specs.Receiving.{InArrays}
+use Rattle.engine.proofs.Bounds.{channel-bound, receiver-bound, entries-bound, channel-log-bound}
+use Rattle.engine.proofs.Bounds.{message-log-bound}
+use Rattle.engine.proofs.Lengths.{Lengths, lengths}
 use Rattle.engine.proofs.Views.{channel-read}
 use Rattle.engine.proofs.Promises.{performs-refused}
-use Rattle.engine.proofs.ReceiveCases.{settingOf, received, receive-missing}
-use Rattle.engine.proofs.ReceiveFacts.{Known, known, first-read, room-read, raisable, seen}
-use Rattle.engine.proofs.Attempts.{attempts-read, passed-unrefused, received-first, receive-stopped, receive-passed}
+use Rattle.engine.proofs.ReceiveMeets.{no-channel, has-entry, receive-stopped, receive-done, changed-seen}
 use Rattle.engine.proofs.receive.receive.Statement.{statement}
 use Rattle.engine.proofs.receive.receive.Tie as tie
 
--- behind the refusal of a missing channel
-abbrev S : tie.Else1 → State
-S d = d .before .before .before .args .t1
+returns : tie.Need-returns
+returns c =
+    let a = c .before .before .before .args in
+    performs-refused (a .t1) _ _ _ _ (no-channel (a .t1) (a .channel) (c .if1 .taken))
 
-abbrev C : tie.Else1 → ℕ
-C d = d .before .before .before .args .channel
+-- a planned channel: its index and its receiver's are within the arrays
+module _ (d : tie.Else1) where
+  abbrev start : tie.Start
+  start = d .before .before .before
 
-facts : (d : tie.Else1) → Known (S d) (C d)
-facts d = known (S d) (C d) (d .before .before .before .pre .0) (d .if1 .left) (lengths (S d) _ (d .before .before .before .good .0))
+  abbrev state : State
+  state = start .args .t1
 
-within : (d : tie.Else1) → Within (settingOf (view (S d)) (C d))
-unfolding view receiver nextLine
-within d =
-    record { channel = facts d .below; receiver = facts d .receiver; line = λ e l. next-line-fits (view (S d)) (d .before .before .before .pre .0) e l }
+  abbrev channel : ℕ
+  channel = start .args .channel
 
--- once the attempt is made
-abbrev planned : tie.After-attempt → tie.Else1
-planned a = a .before .before .before .before .before .before .before .before .before .before .before
+  abbrev to : ℕ
+  to = getD (state .topology .to) channel 0
 
--- it came off
-abbrev tried : tie.Then2 → tie.After-attempt
+  sizes : Lengths state
+  sizes = lengths state _ (start .good .0)
+
+  below : channel < channelLimit
+  below = channel-bound state (start .pre .0) channel (d .if1 .left)
+
+  within : channel < length (state .channels)
+  within = omega (arith, below, sizes .channels)
+
+  to-below : to < processLimit
+  to-below = receiver-bound state (start .pre .0) channel (d .if1 .left)
+
+  arrays : (n : ℕ) (t : Bool)
+      → InArrays (record { channel = channel; entries = n; closed = t; receiver = to; counts = state .counts })
+  arrays n t =
+      record {
+        channel = below;
+        receiver = to-below;
+        inChannel = channel-log-bound state (start .pre .0) channel (d .if1 .left);
+        inMessages = message-log-bound state (start .pre .0) channel (d .if1 .left);
+      }
+
+-- once the receiver is read
+abbrev known : tie.After-round → tie.Else1
+known p = p .before .before .before .before .before
+
+-- once the reaction is decided
+module _ (p : tie.After-react) where
+  abbrev d : tie.Else1
+  d = known (p .before .before .before)
+
+  abbrev x : Reaction
+  x = p .react .result
+
+  abbrev read-at : tie.After-entry-at
+  read-at = p .before .before .before .before .before .before
+
+  abbrev entry : Entry
+  entry = read-at .entry-at .result
+
+  reacts : viewReaction (channel d) (receiver (state d .topology) (channel d)) x
+      ≡ reaction (view (state d)) (channel d) entry
+  unfolding reaction receiver view viewProgress
+  reacts = p .react .ensures (channel d)
+
+-- once it was tried
+abbrev decided : tie.After-attempt → tie.After-react
+decided t = t .before .before .before .before
+
+abbrev tried : tie.After-struct-known → tie.After-attempt
 tried t = t .before .before .before
 
-positive : (n : ℕ) → (n ≡ 0 → ⊥) → 0 < n
-positive zero f = absurd (f refl)
-positive (suc n) f = omega arith
-
--- the entry is there
-has-entry : (t : tie.Then2) (d : Channel) → 0 < getD (S (planned (tried t)) .channels) (C (planned (tried t))) d .count
-unfolding view viewProgress receiver entries tabulate
-has-entry t d =
-    let a : tie.After-attempt = tried t in
-    let l = facts (planned a) .within in
-    positive _ (λ z. received-first _ _ _ _ _ _ _ (attempts-read (S (planned a)) (C (planned a)) _ _ _ _ _ (facts (planned a) .within) (a .attempt .ensures)) (t .if2 .taken) (channel-read (S (planned a)) (C (planned a)) d l ∙ rw z))
-
-abbrev E : tie.After-first → Entry
-E f = f .first .result
-
-first-is : (f : tie.After-first) → view (S (planned (tried (f .before)))) .channel (C (planned (tried (f .before)))) ≡ E f ∷ drop 1 (view (S (planned (tried (f .before)))) .channel (C (planned (tried (f .before)))))
-first-is f =
-    let d : tie.Else1 = planned (tried (f .before)) in
-    first-read (S d) (C d) _ (E f) (facts d .within) (f .first .ensures)
-
-returns : tie.Need-returns
-unfolding view
-returns c = performs-refused (c .before .before .before .args .t1) _ _ _ _ (receive-missing (view (c .before .before .before .args .t1)) (c .before .before .before .args .channel) (c .if1 .taken))
-
-mul-c : tie.Need-mul-c
-mul-c c = search needs
-
-element-copy-out-c : tie.Need-element-copy-out-c
-element-copy-out-c c = facts c .below
-
-element-copy-out-to : tie.Need-element-copy-out-to
-element-copy-out-to c = facts (c .before) .below
-
-cast-to : tie.Need-cast-to
-cast-to c = search needs
-
-element-copy-out-if2 : tie.Need-element-copy-out-if2
-element-copy-out-if2 c = facts (c .before .before .before .before) .below
-
-element-copy-out-t16 : tie.Need-element-copy-out-t16
-element-copy-out-t16 c = facts (c .before .before .before .before .before) .below
-
-element-copy-out-t35 : tie.Need-element-copy-out-t35
-element-copy-out-t35 c = facts (c .before .before .before .before .before .before) .receiver
-
-element-copy-out-t38 : tie.Need-element-copy-out-t38
-element-copy-out-t38 c = facts (c .before .before .before .before .before .before .before) .receiver
-
-attempt-requires : tie.Need-attempt-requires
-unfolding view viewProgress receiver
-attempt-requires c κs =
-    let d : tie.Else1 = c .before .before .before .before .before .before .before .before .before .before in
-    (within d, d .before .before .before .pre .1)
-
-first-requires : tie.Need-first-requires
-first-requires c κs = has-entry c _
-
-pop-requires : tie.Need-pop-requires
-pop-requires c κs =
-    let t : tie.Then2 = c .before in
-    let d : tie.Else1 = planned (tried t) in
-    (has-entry t _, room-read (S d) (C d) _ (d .before .before .before .pre .0) (d .if1 .left) (facts d .within))
-
-mul-t43 : tie.Need-mul-t43
-mul-t43 c = search needs
-
-element-set-from-s : tie.Need-element-set-from-s
-element-set-from-s c = facts (planned (tried (c .before .before))) .below
-
-mul-word-after : tie.Need-mul-word-after
-mul-word-after c = omega (arith, facts (planned (tried (c .before .before))) .receiver)
-
-element-copy-out-word-after : tie.Need-element-copy-out-word-after
-element-copy-out-word-after c = facts (planned (tried (c .before .before))) .receiver
-
-word-after-requires : tie.Need-word-after-requires
-word-after-requires c κs = search needs
-
-mul-s : tie.Need-mul-s
-mul-s c = omega (arith, facts (planned (tried (c .before .before .before .before))) .receiver)
-
-element-write-s : tie.Need-element-write-s
-element-write-s c = facts (planned (tried (c .before .before .before .before))) .receiver
-
-tag-after-requires : tie.Need-tag-after-requires
-tag-after-requires c κs = search needs
-
-element-write-s-2 : tie.Need-element-write-s-2
-element-write-s-2 c = facts (planned (tried (c .before .before .before .before .before))) .receiver
-
-flags-after-requires : tie.Need-flags-after-requires
-unfolding view viewProgress receiver
-flags-after-requires c κs = within (planned (tried (c .before .before .before .before .before)))
-
-needed-requires : tie.Need-needed-requires
-needed-requires c κs = search needs
-
-counts-after-requires : tie.Need-counts-after-requires
-unfolding view viewProgress receiver
-counts-after-requires c κs =
-    let f : tie.After-first = c .before .before .before .before .before .before .before in
-    let a : tie.After-attempt = tried (f .before) in
-    rw (c .needed .ensures)
-    (raisable _ _ (E f) (within (planned a)) (passed-unrefused _ _ _ _ _ _ _ ((attempts-read (S (planned a)) (C (planned a)) _ _ _ _ _ (facts (planned a) .within) (a .attempt .ensures)) .first (E f) _ (first-is f)) (f .before .if2 .taken)))
-
+-- it was stopped
 same-length : tie.Need-same-length
 same-length c =
-    let t : tie.Then2 = c .before .before .before .before .before .before .before .before .before in
-    search (needs, t .before .slice-known2, t .before .before .store, tried t .attempt)
+    search (needs, c .before .before .slice-known2, c .before .before .before .store, tried (c .before) .attempt)
 
--- every part of the state is as the definition has it
 returns-2 : tie.Need-returns-2
-unfolding view viewProgress receiver firstly
+unfolding receiver view viewProgress
 returns-2 c =
-    let flagged : tie.After-flags-after = c .before .before .before in
-    let tagged : tie.After-tag-after = flagged .before in
-    let popped : tie.After-pop = tagged .before .before .before in
-    let f : tie.After-first = popped .before in
-    let a : tie.After-attempt = tried (f .before) in
-    let d : tie.Else1 = planned a in
-    let left = popped .pop .ensures ∙ ap (drop 1) (sym (channel-read (S d) (C d) _ (facts d .within))) in
-    let counted = c .counts-after .ensures ∙ λ i. countsAfter (c .before .needed .ensures i) (viewCounts (S d .counts)) in
-    receive-passed (S d) (C d) (d .if1 .left) _ _ _ _ (attempts-read (S (planned a)) (C (planned a)) _ _ _ _ _ (facts (planned a) .within) (a .attempt .ensures)) (f .before .if2 .taken) (E f) _ (first-is f) _
-    (seen (S d) (C d) (popped .pop .result) (tagged .before .word-after .result) (tagged .tag-after .result) (flagged .flags-after .result) (c .counts-after .result) (facts d)
-    ∙ λ i. received (view (S d)) (C d) (left i) (tagged .before .word-after .ensures i) (tagged .tag-after .ensures i) (flagged .flags-after .ensures i) (counted i))
+    let t = tried (c .before) in
+    let p = decided t in
+    let e = d p in
+    receive-stopped (state e) (channel e) (e .if1 .left) _ (channel-read (state e) (channel e) (within e) _) (entry p)
+    (read-at p .entry-at .ensures) (x p) (reacts p) _ _ _ _ (t .attempt .ensures) (not-true _ (c .if2 .taken))
+
+-- it came off
+abbrev came-off : tie.After-pop → tie.Else1
+came-off q = d (decided (tried (q .before .before)))
+
+pop-requires : tie.Need-pop-requires
+unfolding receiver view viewProgress
+pop-requires c κs =
+    let t = tried (c .before) in
+    let p = decided t in
+    let read = channel-read (state (d p)) (channel (d p)) (within (d p)) _ in (
+      has-entry (state (d p)) (channel (d p)) (d p .if1 .left) _ read (entry p) (read-at p .entry-at .ensures) (x p)
+          (reacts p)
+          (t .attempt .ensures .passed (not-false _ (c .if2 .left))),
+      entries-bound (state (d p)) (start (d p) .pre .0) (channel (d p)) (d p .if1 .left) _ (within (d p)),
+    )
 
 same-length-2 : tie.Need-same-length-2
-same-length-2 c = search needs
+same-length-2 c =
+    let t : tie.Else2 = c .before .before .before .before .before .before .before in
+    search
+    (needs, t .before .before .slice-known2, t .before .before .before .store, tried (t .before) .attempt)
 
 returns-3 : tie.Need-returns-3
-unfolding view viewProgress receiver
+unfolding receiver view viewProgress
 returns-3 c =
-    let a : tie.After-attempt = c .before .before .before in
-    receive-stopped (S (planned a)) (C (planned a)) (planned a .if1 .left) _ _ _ _ (attempts-read (S (planned a)) (C (planned a)) _ _ _ _ _ (facts (planned a) .within) (a .attempt .ensures)) (c .if2 .left)
+    let flagged = c .before in
+    let worded = flagged .before .before .before in
+    let popped = worded .before .before in
+    let stood = popped .before .before in
+    let p = decided (tried stood) in
+    let e = d p in
+    let i : to e < length (state e .words) = omega (arith, to-below e, sizes e .words) in
+    let j : to e < length (state e .tags) = omega (arith, to-below e, sizes e .tags) in
+    receive-done (state e) (channel e) (e .if1 .left) _ (channel-read (state e) (channel e) (within e) _) (entry p)
+    (read-at p .entry-at .ensures) (x p) (reacts p) _ _ _ _ (tried stood .attempt .ensures)
+    (not-false _ (popped .before .if2 .left)) _
+    (changed-seen (state e) (channel e) (to e) (popped .pop .result) (worded .word-after .result) _
+    (flagged .flags-after .result) (c .counts-after .result) (within e) i j (x p) (entry p) _ (popped .pop .ensures)
+    (worded .word-after .ensures) refl (flagged .flags-after .ensures) (c .counts-after .ensures))
 
 pub receive-spec : {M : Type 1} → statement M
 receive-spec =
     tie.close
     (tie.spec
     returns
-    mul-c
-    element-copy-out-c
-    element-copy-out-to
-    cast-to
-    element-copy-out-if2
-    element-copy-out-t16
-    element-copy-out-t35
-    element-copy-out-t38
-    attempt-requires
-    first-requires
-    pop-requires
-    mul-t43
-    element-set-from-s
-    mul-word-after
-    element-copy-out-word-after
-    word-after-requires
-    mul-s
-    element-write-s
-    tag-after-requires
-    element-write-s-2
-    flags-after-requires
-    needed-requires
-    counts-after-requires
+    (λ c. search needs)
+    (λ c. below c)
+    (λ c κs. search needs)
+    (λ c. below (c .before .before))
+    (λ c. search needs)
+    (λ c. to-below (known c))
+    (λ c. to-below (known (c .before)))
+    (λ c κs. search needs)
+    (λ c. below (d c))
+    (λ c κs. let e = d (c .before .before .before) in (arrays e _ _, start e .pre .1))
     same-length
     returns-2
+    pop-requires
+    (λ c. search needs)
+    (λ c. below (came-off c))
+    (λ c. omega (arith, to-below (came-off c)))
+    (λ c. to-below (came-off c))
+    (λ c κs. search needs)
+    (λ c. omega (arith, to-below (came-off (c .before .before))))
+    (λ c. to-below (came-off (c .before .before)))
+    (λ c. to-below (came-off (c .before .before)))
+    (λ c. to-below (came-off (c .before .before .before .before)))
+    (λ c κs. let e = came-off (c .before .before .before .before) in (below e, to-below e))
+    (λ c κs. arrays (came-off (c .before .before .before .before .before)) _ _)
     same-length-2
     returns-3)

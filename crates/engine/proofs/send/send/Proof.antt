@@ -1,85 +1,118 @@
 -- `engine::send::send` meets its contract, in each of its cases.
 use borrow.Author.Needs.{needs}
+use borrow.Author.Tests.{lt-ltb, le-ltb, le-leb, lt-leb}
 use native.Mathlib.Omega.{arith}
-use Prim.Native.Nat.{_<_}
-use mathlib.Core.Path.{refl, _∙_, ap}
-use mathlib.Core.List.{List}
-use lib.ListN.{length}
+use Prim.Native.Nat.{ℕ, _<_, _≤_}
+use mathlib.Core.Path.{_≡_, _∙_, ap}
+use mathlib.Core.Bool.{false}
+use mathlib.Core.List.{List, [], _∷_, _++_}
+use mathlib.Core.Option.{none, some}
+use lib.ListN.{length, getD}
+use Rattle.model.specs.declared.Channel.{Channel}
 use Rattle.model.specs.declared.Entry.{Entry}
+use Rattle.model.specs.declared.Entry.the-variants.{Message}
+use Rattle.model.specs.declared.State.{State}
+use Rattle.model.specs.declared.Step.the-variants.{Send}
+use Rattle.model.specs.declared.Outcome.the-variants.{Done}
+use Rattle.model.specs.declared.Refusal.the-variants.{NoSuch, ChannelFull}
+use Rattle.model.specs.Check.{firstRefusal}
+use Rattle.model.specs.Topology.{processLimit, channelLimit, sender, hasChannel}
+use Rattle.model.specs.Channel.{channelRoom, entries, noRoom, noRoomForMessage}
 use Rattle.model.specs.State.{view}
 use Rattle.model.specs.Change.{setEntries}
-use Rattle.model.specs.Outcome.{accepted}
-use Rattle.engine.proofs.Bounds.{size-bounds, sender-bound}
+use Rattle.model.specs.Step.{priorChecks, roomChecks, logChecks, ownChecks, effect, quietly}
+use Rattle.model.proofs.laws.ChannelLaws.{entries-count}
+use Rattle.engine.proofs.Bounds.{channel-bound, sender-bound, receiver-bound}
 use Rattle.engine.proofs.Lengths.{lengths}
 use Rattle.engine.proofs.Views.{channel-read, channel-set}
-use Rattle.engine.proofs.SendCases.{send-no-such, send-full, send-done}
 use Rattle.engine.proofs.Promises.{quiet-refused, quiet-done}
 use Rattle.engine.proofs.send.send.Statement.{statement}
 use Rattle.engine.proofs.send.send.Tie as tie
 
+-- what its checks say, by what the code reads of the state
+module _ (s : State) (c b : ℕ) where
+  missing : s .topology .channels ≤ c → firstRefusal (ownChecks (view s) (Send c b)) ≡ some NoSuch
+  unfolding ownChecks priorChecks roomChecks logChecks hasChannel firstRefusal view
+  missing l = rw (le-ltb c (s .topology .channels) l)
+
+  -- on a channel of the topology, whose places are those of x
+  module _ (l : c < s .topology .channels) (x : Channel) (e : view s .channel c ≡ entries x) where
+    full : channelRoom ≤ x .count → firstRefusal (ownChecks (view s) (Send c b)) ≡ some ChannelFull
+    unfolding ownChecks priorChecks roomChecks logChecks hasChannel noRoomForMessage noRoom firstRefusal view
+    full k = rw (lt-ltb c (s .topology .channels) l, e, entries-count x, le-leb channelRoom (x .count) k)
+
+    passed : x .count < channelRoom → firstRefusal (ownChecks (view s) (Send c b)) ≡ none
+    unfolding ownChecks priorChecks roomChecks logChecks hasChannel noRoomForMessage noRoom firstRefusal view
+    passed k = rw (lt-ltb c (s .topology .channels) l, e, entries-count x, lt-leb channelRoom (x .count) k)
+
+    done : effect (view s) (Send c b)
+        ≡ quietly Done
+        (setEntries c (entries x ++ (Message b (getD (s .tags) (getD (s .topology .from) c 0) false) ∷ [])) (view s))
+    unfolding effect sender view
+    done = rw e
+
 -- a planned channel is one of the array
-within : (c : tie.Else1) → c .before .before .args .channel < length (c .before .before .args .t1 .channels)
-within c = omega (arith, size-bounds _ (c .before .before .pre) .1, lengths (c .before .before .args .t1) _ (c .before .before .good .0) .channels)
+abbrev start : tie.Else1 → tie.Start
+start d = d .before .before
+
+below : (d : tie.Else1) → start d .args .channel < channelLimit
+below d = channel-bound _ (start d .pre) _ (d .if1 .left)
+
+within : (d : tie.Else1) → start d .args .channel < length (start d .args .t1 .channels)
+within d = omega (arith, below d, lengths (start d .args .t1) _ (start d .good .0) .channels)
 
 returns : tie.Need-returns
-returns c = let a = c .before .before .args in quiet-refused (a .t1) _ _ (send-no-such (a .t1) (a .channel) (a .body) (c .if1 .taken))
-
-mul-c : tie.Need-mul-c
-mul-c c = search needs
-
-element-copy-out-c : tie.Need-element-copy-out-c
-element-copy-out-c c = omega (arith, size-bounds _ (c .before .before .pre) .1)
+returns c =
+    let a = c .before .before .args in
+    quiet-refused (a .t1) _ _ (missing (a .t1) (a .channel) (a .body) (c .if1 .taken))
 
 returns-2 : tie.Need-returns-2
 returns-2 c =
-    let a = c .before .before .before .before .before .args in
+    let d = c .before .before .before in
+    let a = start d .args in
     quiet-refused (a .t1) _ _
-    (send-full (a .t1) (a .channel) (a .body) (omega arith) _ (channel-read (a .t1) (a .channel) _ (within (c .before .before .before))) (c .if2 .taken))
+    (full (a .t1) (a .channel) (a .body) (d .if1 .left) _ (channel-read (a .t1) (a .channel) (within d) _)
+    (c .if2 .taken))
 
-element-copy-out-from : tie.Need-element-copy-out-from
-element-copy-out-from c = omega (arith, size-bounds _ (c .before .before .before .before .before .pre) .1)
+-- past both refusals
+abbrev planned : tie.Else2 → tie.Else1
+planned e = e .before .before .before
 
-cast-from : tie.Need-cast-from
-cast-from c =
-    let s = c .before .before .before .before .before .before in
-    omega (arith, sender-bound _ (s .pre) (s .args .channel) (omega arith))
+-- its ends are among the processes
+module _ (e : tie.Else2) where
+  abbrev given : tie.Start
+  given = start (planned e)
 
-element-copy-out-tag : tie.Need-element-copy-out-tag
-element-copy-out-tag c =
-    let s = c .before .before .before .before .before .before in
-    sender-bound _ (s .pre) (s .args .channel) (omega arith)
+  sender-within : getD (given .args .t1 .topology .from) (given .args .channel) 0 < processLimit
+  sender-within = sender-bound _ (given .pre) _ (planned e .if1 .left)
 
-push-requires : tie.Need-push-requires
-push-requires c κs = search needs
-
-mul-t16 : tie.Need-mul-t16
-mul-t16 c = search needs
-
-element-set-from-s : tie.Need-element-set-from-s
-element-set-from-s c = omega (arith, size-bounds _ (c .before .before .before .before .before .before .before .before .pre) .1)
+  receiver-within : getD (given .args .t1 .topology .to) (given .args .channel) 0 < processLimit
+  receiver-within = receiver-bound _ (given .pre) _ (planned e .if1 .left)
 
 returns-3 : tie.Need-returns-3
-unfolding accepted
 returns-3 c =
-    let a = c .before .before .before .before .before .before .before .before .args in
-    let l = within (c .before .before .before .before .before .before) in
-    quiet-done (a .t1) _ _ _ _
-    (send-done (a .t1) (a .channel) (a .body) (omega arith) _ (channel-read (a .t1) (a .channel) _ l) (omega arith))
-    (channel-set (a .t1) (a .channel) (c .push .result) l ∙ ap (λ (es : List Entry). setEntries (a .channel) es (view (a .t1))) (c .push .ensures .0))
-    refl
+    let e = c .before .before .before in
+    let d = planned e in
+    let a = start d .args in
+    let read = channel-read (a .t1) (a .channel) (within d) _ in
+    quiet-done (a .t1) _ (passed (a .t1) (a .channel) (a .body) (d .if1 .left) _ read (e .if2 .left)) _
+    (done (a .t1) (a .channel) (a .body) (d .if1 .left) _ read) _
+    (channel-set (a .t1) (a .channel) (within d) (c .push .result)
+    ∙ ap (λ (es : List Entry). setEntries (a .channel) es (view (a .t1))) (c .push .ensures))
 
 pub send-spec : {M : Type 1} → statement M
 send-spec =
     tie.close
     (tie.spec
     returns
-    mul-c
-    element-copy-out-c
+    (λ c. search needs)
+    (λ c. below c)
+    (λ c. search needs)
     returns-2
-    element-copy-out-from
-    cast-from
-    element-copy-out-tag
-    push-requires
-    mul-t16
-    element-set-from-s
+    (λ c. below (planned c))
+    (λ c. omega (arith, sender-within (c .before), receiver-within (c .before)))
+    (λ c. omega (arith, sender-within (c .before), receiver-within (c .before)))
+    (λ c κs. search needs)
+    (λ c. search needs)
+    (λ c. below (planned (c .before .before .before)))
     returns-3)

@@ -1,116 +1,146 @@
 -- `engine::send_marker::send_marker` meets its contract, in each of its cases.
 use borrow.Author.Needs.{needs}
-use borrow.Author.Tests.{not-true, not-false}
+use borrow.Author.Tests.{lt-ltb, le-ltb, le-leb, lt-leb, not-true, not-false}
 use native.Mathlib.Omega.{arith}
-use Prim.Native.Nat.{_<_}
-use mathlib.Core.Path.{_≡_, refl, sym, ap, _∙_}
-use mathlib.Core.Bool.{true}
-use mathlib.Core.List.{List}
-use lib.ListN.{length}
+use Prim.Native.Nat.{ℕ, _<_, _≤_}
+use mathlib.Core.Path.{_≡_, ap, _∙_}
+use mathlib.Core.Bool.{true, false}
+use mathlib.Core.List.{List, [], _∷_, _++_}
+use mathlib.Core.Option.{none, some}
+use lib.ListN.{length, getD}
+use Rattle.model.specs.declared.Channel.{Channel}
 use Rattle.model.specs.declared.Entry.{Entry}
-use Rattle.model.specs.State.{view}
+use Rattle.model.specs.declared.Entry.the-variants.{Marker}
+use Rattle.model.specs.declared.State.{State}
+use Rattle.model.specs.declared.Step.the-variants.{SendMarker}
+use Rattle.model.specs.declared.Outcome.the-variants.{Done}
+use Rattle.model.specs.declared.Refusal.the-variants.{NoSuch, NotNow, ChannelFull}
+use Rattle.model.specs.Check.{firstRefusal}
+use Rattle.model.specs.Topology.{processLimit, channelLimit, sender, hasChannel}
+use Rattle.model.specs.Channel.{channelRoom, entries, noRoom, noRoomForMarker}
+use Rattle.model.specs.State.{view, viewProgress}
 use Rattle.model.specs.Change.{setEntries, recordSent}
-use Rattle.model.specs.Outcome.{accepted}
-use Rattle.model.specs.Step.{maySendMarker}
-use Rattle.engine.proofs.Bounds.{size-bounds, sender-bound}
+use Rattle.model.specs.Step.{maySendMarker, priorChecks, roomChecks, logChecks, ownChecks, effect, quietly}
+use Rattle.model.proofs.laws.ChannelLaws.{entries-count}
+use Rattle.engine.proofs.Bounds.{channel-bound, sender-bound}
 use Rattle.engine.proofs.Lengths.{lengths}
-use Rattle.engine.proofs.Views.{channel-read}
-use Rattle.engine.proofs.SendMarkerCases.{marker-asked, marker-no-such, marker-not-now, marker-full, marker-done, marker-set}
+use Rattle.engine.proofs.Views.{channel-read, marker-set}
 use Rattle.engine.proofs.Promises.{quiet-refused, quiet-done}
 use Rattle.engine.proofs.send_marker.send_marker.Statement.{statement}
 use Rattle.engine.proofs.send_marker.send_marker.Tie as tie
 
--- what the code asks is what the definition asks
-asked : (c : tie.After-allows) → let a = c .before .before .before .before .before .before .before .before .args in c .allows .result ≡ maySendMarker (view (a .t1)) (a .channel)
-asked c = c .allows .ensures ∙ marker-asked _ _
+-- what its checks say, by what the code reads of the state
+module _ (s : State) (c : ℕ) where
+  missing : s .topology .channels ≤ c → firstRefusal (ownChecks (view s) (SendMarker c)) ≡ some NoSuch
+  unfolding ownChecks priorChecks roomChecks logChecks hasChannel firstRefusal view
+  missing l = rw (le-ltb c (s .topology .channels) l)
 
--- a planned channel is one of the array
-within : (c : tie.Else1) → c .before .before .args .channel < length (c .before .before .args .t1 .channels)
-within c = omega (arith, size-bounds _ (c .before .before .pre) .1, lengths (c .before .before .args .t1) _ (c .before .before .good .0) .channels)
+  -- on a channel of the topology
+  module _ (l : c < s .topology .channels) where
+    not-now : maySendMarker (view s) c ≡ false → firstRefusal (ownChecks (view s) (SendMarker c)) ≡ some NotNow
+    unfolding ownChecks priorChecks roomChecks logChecks hasChannel firstRefusal view
+    not-now t = rw (lt-ltb c (s .topology .channels) l, t)
+
+    -- where it may be sent, and the channel's places are those of x
+    module _ (t : maySendMarker (view s) c ≡ true) (x : Channel) (e : view s .channel c ≡ entries x) where
+      full : channelRoom ≤ x .count → firstRefusal (ownChecks (view s) (SendMarker c)) ≡ some ChannelFull
+      unfolding ownChecks priorChecks roomChecks logChecks hasChannel noRoomForMarker noRoom firstRefusal view
+      full k = rw (lt-ltb c (s .topology .channels) l, t, e, entries-count x, le-leb channelRoom (x .count) k)
+
+      passed : x .count < channelRoom → firstRefusal (ownChecks (view s) (SendMarker c)) ≡ none
+      unfolding ownChecks priorChecks roomChecks logChecks hasChannel noRoomForMarker noRoom firstRefusal view
+      passed k = rw (lt-ltb c (s .topology .channels) l, t, e, entries-count x, lt-leb channelRoom (x .count) k)
+
+      done : effect (view s) (SendMarker c)
+          ≡ quietly Done (recordSent c (setEntries c (entries x ++ (Marker ∷ [])) (view s)))
+      unfolding effect view
+      done = rw e
+
+-- a planned channel is one of the arrays, and so is its sender
+module _ (d : tie.Else1) where
+  abbrev start : tie.Start
+  start = d .before .before
+
+  abbrev state : State
+  state = start .args .t1
+
+  abbrev channel : ℕ
+  channel = start .args .channel
+
+  below : channel < channelLimit
+  below = channel-bound _ (start .pre) _ (d .if1 .left)
+
+  within : channel < length (state .channels)
+  within = omega (arith, below, lengths state _ (start .good .0) .channels)
+
+  sender-within : getD (state .topology .from) channel 0 < processLimit
+  sender-within = sender-bound _ (start .pre) _ (d .if1 .left)
 
 returns : tie.Need-returns
-returns c = let a = c .before .before .args in quiet-refused (a .t1) _ _ (marker-no-such (a .t1) (a .channel) (c .if1 .taken))
+returns c = let a = c .before .before .args in quiet-refused (a .t1) _ _ (missing (a .t1) (a .channel) (c .if1 .taken))
 
-element-copy-out-allows : tie.Need-element-copy-out-allows
-element-copy-out-allows c = omega (arith, size-bounds _ (c .before .before .before .before .pre) .1)
+-- once it was asked whether the marker may be sent
+abbrev planned : tie.After-may3 → tie.Else1
+planned m = m .before .before .before .before .before .before
 
-element-copy-out-allows-2 : tie.Need-element-copy-out-allows-2
-element-copy-out-allows-2 c = omega (arith, size-bounds _ (c .before .before .before .before .before .pre) .1)
-
-cast-allows : tie.Need-cast-allows
-cast-allows c = search needs
-
-element-copy-out-allows-3 : tie.Need-element-copy-out-allows-3
-element-copy-out-allows-3 c =
-    let s = c .before .before .before .before .before .before in
-    sender-bound _ (s .pre) (s .args .channel) (omega arith)
-
-allows-requires : tie.Need-allows-requires
-allows-requires c κs = search needs
+refused : (c : tie.Then2) → maySendMarker (view (state (planned (c .before)))) (channel (planned (c .before))) ≡ false
+unfolding maySendMarker sender view viewProgress
+refused c = rw (← (c .before .before .before .before .is-logical .ensures)) (not-true _ (c .if2 .taken))
 
 returns-2 : tie.Need-returns-2
 returns-2 c =
-    let a = c .before .before .before .before .before .before .before .before .before .args in
-    quiet-refused (a .t1) _ _ (marker-not-now (a .t1) (a .channel) (omega arith) (sym (asked (c .before)) ∙ not-true _ (c .if2 .taken)))
+    let d = planned (c .before) in
+    quiet-refused (state d) _ _ (not-now (state d) (channel d) (d .if1 .left) (refused c))
 
-mul-c : tie.Need-mul-c
-mul-c c = search needs
+-- it may
+module _ (e : tie.Else2) where
+  abbrev p : tie.Else1
+  p = planned (e .before)
 
-element-copy-out-c : tie.Need-element-copy-out-c
-element-copy-out-c c = omega (arith, size-bounds _ (c .before .before .before .before .before .before .before .before .before .pre) .1)
+  allowed : maySendMarker (view (state p)) (channel p) ≡ true
+  unfolding maySendMarker sender view viewProgress
+  allowed = rw (← (e .before .before .before .before .is-logical .ensures)) (not-false _ (e .if2 .left))
 
--- the marker may be sent
-allowed : (c : tie.Else2) → let a = c .before .before .before .before .before .before .before .before .before .args in maySendMarker (view (a .t1)) (a .channel) ≡ true
-allowed c = sym (asked (c .before)) ∙ not-false _ (c .if2 .left)
+  read : (x : Channel) → view (state p) .channel (channel p) ≡ entries (getD (state p .channels) (channel p) x)
+  read x = channel-read (state p) (channel p) (within p) x
 
 returns-3 : tie.Need-returns-3
 returns-3 c =
-    let p = c .before .before .before .before .before .before .before .before .before .before in
-    let a = p .before .before .args in
-    quiet-refused (a .t1) _ _
-    (marker-full (a .t1) (a .channel) (p .if1 .left) (allowed (c .before .before .before)) _ (channel-read (a .t1) (a .channel) _ (within p)) (c .if3 .taken))
+    let e = c .before .before .before in
+    quiet-refused (state (p e)) _ _
+    (full (state (p e)) (channel (p e)) (p e .if1 .left) (allowed e) _ (read e _) (c .if3 .taken))
 
-element-write-f : tie.Need-element-write-f
-element-write-f c = omega (arith, size-bounds _ (c .before .before .before .before .before .before .before .before .before .before .before .before .pre) .1)
-
-push-requires : tie.Need-push-requires
-push-requires c κs = search needs
-
-mul-t21 : tie.Need-mul-t21
-mul-t21 c = search needs
-
-element-set-from-s : tie.Need-element-set-from-s
-element-set-from-s c = omega (arith, size-bounds _ (c .before .before .before .before .before .before .before .before .before .before .before .before .before .pre) .1)
+abbrev roomy : tie.Else3 → tie.Else2
+roomy r = r .before .before .before
 
 returns-4 : tie.Need-returns-4
-unfolding accepted
 returns-4 c =
-    let p = c .before .before .before .before .before .before .before .before .before .before .before in
-    let s = p .before .before in
-    let a = s .args in
-    let k : a .channel < length (a .t1 .flags .sent) = omega (arith, p .if1 .left, size-bounds _ (s .pre) .1, lengths (a .t1) _ (s .good .0) .sent) in
-    quiet-done (a .t1) _ _ _ _
-    (marker-done (a .t1) (a .channel) (p .if1 .left) (allowed (c .before .before .before .before)) _ (channel-read (a .t1) (a .channel) _ (within p)) (omega arith))
-    (marker-set (a .t1) (a .channel) (c .push .result) (within p) k
-    ∙ ap (λ (es : List Entry). recordSent (a .channel) (setEntries (a .channel) es (view (a .t1)))) (c .push .ensures .0))
-    refl
+    let e = roomy (c .before) in
+    let s = state (p e) in
+    let i = channel (p e) in
+    let sent : i < length (s .flags .sent) = omega (arith, below (p e), lengths s _ (start (p e) .good .0) .sent) in
+    quiet-done s _ (passed s i (p e .if1 .left) (allowed e) _ (read e _) (c .before .if3 .left)) _
+    (done s i (p e .if1 .left) (allowed e) _ (read e _)) _
+    (marker-set s i (within (p e)) sent (c .push .result)
+    ∙ ap (λ (es : List Entry). recordSent i (setEntries i es (view s))) (c .push .ensures))
 
 pub send-marker-spec : {M : Type 1} → statement M
 send-marker-spec =
     tie.close
     (tie.spec
     returns
-    element-copy-out-allows
-    element-copy-out-allows-2
-    cast-allows
-    element-copy-out-allows-3
-    allows-requires
+    (λ c κs. search needs)
+    (λ c. below (c .before .before .before))
+    (λ c. search needs)
+    (λ c. sender-within (c .before .before .before .before))
+    (λ c. below (c .before .before .before .before .before))
     returns-2
-    mul-c
-    element-copy-out-c
+    (λ c. search needs)
+    (λ c. below (p c))
+    (λ c. search needs)
     returns-3
-    element-write-f
-    push-requires
-    mul-t21
-    element-set-from-s
+    (λ c. below (p (roomy c)))
+    (λ c κs. search needs)
+    (λ c. search needs)
+    (λ c. below (p (roomy (c .before))))
     returns-4)

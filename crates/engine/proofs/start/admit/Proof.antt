@@ -1,39 +1,30 @@
 -- `engine::start::admit` meets its contract: 1 to 5 where they refuse, else 6.
 use borrow.Author.Needs.{needs}
 use borrow.Author.Tests.{lt-ltb, le-ltb}
-use Rattle.model.specs.Notation.{orElse, firstRefusal}
-use Rattle.model.specs.Layout.{storeCells}
+use Rattle.model.specs.Notation.{orElse}
+use Rattle.model.specs.Check.{refusalOf, firstRefusal}
 use Rattle.model.specs.Start.{initializeRefusal}
-use Rattle.engine.specs.Verdict.{refusalOf}
 use Rattle.engine.proofs.start.admit.Statement.{statement}
 use Rattle.engine.proofs.start.admit.Tie as tie
 
-check-requires : tie.Need-check-requires
-check-requires c κs = search needs
-
-enum-told : tie.Need-enum-told
-enum-told c = search needs
-
-enum-known-r : tie.Need-enum-known-r
-enum-known-r c = search needs
-
 returns : tie.Need-returns
-unfolding refusalOf initializeRefusal orElse firstRefusal storeCells
+unfolding refusalOf initializeRefusal orElse firstRefusal
 returns c =
     let s = c .before .before .before in
     rw (← (s .check .ensures), c .before .enum-told .given .1, lt-ltb _ _ (c .if1 .taken))
 
 returns-2 : tie.Need-returns-2
-unfolding refusalOf initializeRefusal orElse firstRefusal storeCells
+unfolding refusalOf initializeRefusal orElse firstRefusal
 returns-2 c =
     let s = c .before .before .before in
     rw (← (s .check .ensures), c .before .enum-told .given .1, le-ltb _ _ (c .if1 .left))
 
 returns-3 : tie.Need-returns-3
-unfolding refusalOf initializeRefusal orElse firstRefusal storeCells
+unfolding refusalOf initializeRefusal orElse firstRefusal
 returns-3 c =
     let s = c .before .before .before in
     rw (← (s .check .ensures), c .before .r .given .1)
 
 pub admit-spec : {M : Type 1} → statement M
-admit-spec = tie.close (tie.spec check-requires enum-told enum-known-r returns returns-2 returns-3)
+admit-spec =
+    tie.close (tie.spec (λ c κs. search needs) (λ c. search needs) (λ c. search needs) returns returns-2 returns-3)

@@ -1,30 +1,26 @@
 -- `engine::start::admit_store` meets its contract: 1 to 6 where they refuse, else 16.
 use mathlib.Core.Path.{sym, ap, _∙_}
 use borrow.Author.Needs.{needs}
-use Rattle.model.specs.Notation.{orElse, firstRefusal}
+use Rattle.model.specs.Notation.{orElse}
+use Rattle.model.specs.Check.{refusalOf, firstRefusal}
 use Rattle.model.specs.Start.{recoverRefusal}
-use Rattle.engine.specs.Verdict.{refusalOf}
 use Rattle.engine.proofs.start.admit_store.Statement.{statement}
 use Rattle.engine.proofs.start.admit_store.Tie as tie
-
-admit-requires : tie.Need-admit-requires
-admit-requires c κs = search needs
-
-enum-told : tie.Need-enum-told
-enum-told c = search needs
 
 counts-fit-requires : tie.Need-counts-fit-requires
 unfolding refusalOf
 counts-fit-requires c κs = sym (c .before .before .admit .ensures) ∙ ap refusalOf (c .enum-told .given .1)
 
-enum-known-r : tie.Need-enum-known-r
-enum-known-r c = search needs
-
 returns : tie.Need-returns
 unfolding refusalOf recoverRefusal orElse firstRefusal
 returns c =
     let t = c .before .before in
-    rw (← (t .before .before .admit .ensures), t .enum-told .given .1, ← (c .before .counts-fit .ensures), c .if1 .taken)
+    rw (
+      ← (t .before .before .admit .ensures),
+      t .enum-told .given .1,
+      ← (c .before .counts-fit .ensures),
+      c .if1 .taken,
+    )
 
 returns-2 : tie.Need-returns-2
 unfolding refusalOf recoverRefusal orElse firstRefusal
@@ -40,10 +36,10 @@ pub admit-store-spec : {M : Type 1} → statement M
 admit-store-spec =
     tie.close
     (tie.spec
-    admit-requires
-    enum-told
+    (λ c κs. search needs)
+    (λ c. search needs)
     counts-fit-requires
-    enum-known-r
+    (λ c. search needs)
     returns
     returns-2
     returns-3)

@@ -1,4 +1,5 @@
--- `engine::start::channels` meets its contract. The loop's invariant: the first c channels are filled, and the others are empty.
+-- `engine::start::channels` meets its contract. The loop's invariant: the first c channels are filled, and the others
+-- are empty.
 use Prim.Native.Nat.{ℕ, _-_, _<_, _≤_}
 use mathlib.Core.Path.{_≡_, refl, ap, _∙_}
 use mathlib.Core.Bool.{false}
@@ -8,16 +9,20 @@ use native.Mathlib.Omega.{arith}
 use lib.ListN.{length, getD, length-set}
 use Rattle.model.specs.Channel.{entries, messages}
 use Rattle.model.specs.State.{emptyChannel}
-use Rattle.model.specs.Layout.{storeCells, lineCell, cell, channelLog, places, logFrom, logged}
+use Rattle.model.specs.Topology.{channelLimit}
+use Rattle.model.specs.Layout.{cell, Log, channelLog, entriesFrom, entriesBy, logged}
+use Rattle.model.proofs.laws.Functions.{filledBelow, filled-none, filled-more}
 use Rattle.model.specs.Start.{storedLine}
-use Rattle.engine.proofs.Starts.{no-entries}
-use Rattle.engine.proofs.Recovers.{Readable, readable, last-in-store, below, below-none, filled-more, channelOf, channels-below}
+use Rattle.engine.proofs.Recovering.{no-entries}
+use Rattle.engine.proofs.Recovering.{Readable, readable, last-in-store, channelOf, channels-below}
 use Rattle.engine.proofs.start.channels.Statement.{statement}
 use Rattle.engine.proofs.start.channels.Tie as tie
 
 abbrev Inv-loop : tie.InvT-loop
 Inv-loop topology store line r₀ c₀ r c =
-    (c ≤ topology .channels) × (length r ≡ 64) × ((λ (i : ℕ). entries (getD r i emptyChannel)) ≡ below c (channelOf store) [])
+    (c ≤ topology .channels)
+    × (length r ≡ channelLimit)
+    × ((λ (i : ℕ). entries (getD r i emptyChannel)) ≡ filledBelow c (channelOf store) [])
 
 abbrev μ-loop : tie.MeasureT-loop
 μ-loop topology store line r₀ c₀ r c = topology .channels - c
@@ -33,51 +38,27 @@ start t = t .before .before .before .before .before .before
 abbrev at : tie.Then1 Inv-loop μ-loop → ℕ
 at t = t .before .before .loop .c
 
-shared-slice-read-line : tie.Need-shared-slice-read-line Inv-loop μ-loop
-unfolding storeCells
-shared-slice-read-line c = omega (arith, known (c .before .before) .sized .cells)
-
-empty-requires : tie.Need-empty-requires Inv-loop μ-loop
-empty-requires c κs = search needs
-
 loop-holds : tie.Need-loop-holds Inv-loop μ-loop
 loop-holds c =
     let st = c .before .before .before .args .store .now in
-    (omega arith, refl, no-entries (c .empty .result) (c .empty .ensures) ∙ below-none (channelOf st) [])
-
-channel-count-cell-requires : tie.Need-channel-count-cell-requires Inv-loop μ-loop
-channel-count-cell-requires c κs = search needs
+    (omega arith, refl, no-entries (c .empty .result) (c .empty .ensures) ∙ filled-none (channelOf st) [])
 
 fill-requires : tie.Need-fill-requires Inv-loop μ-loop
-unfolding storedLine lineCell cell places
+unfolding storedLine cell
 fill-requires c κs =
     let t = c .before in
     let k = known (start t) in
-    rw (c .channel-count-cell .ensures) (k .fits (channelLog (at t)) (t .if1 .taken), last-in-store k (channelLog (at t)) (t .if1 .taken))
-
-cast-r : tie.Need-cast-r Inv-loop μ-loop
-cast-r c = search needs
-
-mul-r : tie.Need-mul-r Inv-loop μ-loop
-mul-r c = search needs
-
-array-set-from-r : tie.Need-array-set-from-r Inv-loop μ-loop
-array-set-from-r c = omega (arith, known (start (c .before .before)) .sized .channels)
-
-add-c : tie.Need-add-c Inv-loop μ-loop
-add-c c = search needs
-
-loop-less : tie.Need-loop-less Inv-loop μ-loop
-loop-less c = search needs
+    let log : Log = channelLog (at t) in
+    rw (c .channel-count-cell .ensures) (k .fits log (t .if1 .taken), last-in-store k log (t .if1 .taken))
 
 loop-again : tie.Need-loop-again Inv-loop μ-loop
-unfolding storedLine lineCell cell logged
+unfolding storedLine cell logged entriesBy
 loop-again c =
     let t = c .before .before in
     let l = t .before .before .loop in
     let st = start t .args .store .now in
     let filled : entries (c .fill .result) ≡ channelOf st (at t) = c .fill .ensures
-    ∙ ap (λ (a : ℕ). messages false (logFrom st a)) (c .before .channel-count-cell .ensures) in
+    ∙ ap (λ (a : ℕ). messages false (entriesFrom st a (cell st a))) (c .before .channel-count-cell .ensures) in
     let inside : at t < length (l .r) = omega (arith, known (start t) .sized .channels) in (
       omega arith,
       simp length-set (l .inv .1),
@@ -97,15 +78,15 @@ channels-spec =
     (tie.spec
     Inv-loop
     μ-loop
-    shared-slice-read-line
-    empty-requires
+    (λ c. omega (arith, known (c .before .before) .sized .cells))
+    (λ c κs. search needs)
     loop-holds
-    channel-count-cell-requires
+    (λ c κs. search needs)
     fill-requires
-    cast-r
-    mul-r
-    array-set-from-r
-    add-c
-    loop-less
+    (λ c. search needs)
+    (λ c. search needs)
+    (λ c. omega (arith, known (start (c .before .before)) .sized .channels))
+    (λ c. search needs)
+    (λ c. search needs)
     loop-again
     returns)

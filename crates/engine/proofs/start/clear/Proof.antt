@@ -1,10 +1,10 @@
 -- `engine::start::clear` meets its contract: the writes one after the other, and more budget than they need.
 use borrow.Author.Needs.{needs}
 use native.Mathlib.Omega.{arith}
-use Rattle.model.specs.Layout.{storeCells, slot, channelRecord, countCell}
-use Rattle.model.proofs.store.Store.{Sized, sized-start}
+use Rattle.model.specs.Layout.{slot, channelRecord, countCell}
+use Rattle.model.proofs.store.Sizes.{Sized, sized-start}
 use Rattle.engine.proofs.Stores.{spent-length}
-use Rattle.engine.proofs.Starts.{all-cleared}
+use Rattle.engine.proofs.Clearing.{all-cleared}
 use Rattle.engine.proofs.start.clear.Statement.{statement}
 use Rattle.engine.proofs.start.clear.Tie as tie
 
@@ -12,17 +12,8 @@ use Rattle.engine.proofs.start.clear.Tie as tie
 sized : (c : tie.Start) → Sized (c .args .topology) (c .args .store .now)
 sized c = sized-start (c .args .topology) (c .args .store .now) (c .pre)
 
-clear-processes-requires : tie.Need-clear-processes-requires
-clear-processes-requires c κs = let s = sized (c .before .before) in (s .processes, s .cells)
-
-channel-count-cell-requires : tie.Need-channel-count-cell-requires
-channel-count-cell-requires c κs = search needs
-
-cast-zeros : tie.Need-cast-zeros
-cast-zeros c = search needs
-
 zeros-requires : tie.Need-zeros-requires
-unfolding countCell channelRecord slot storeCells
+unfolding countCell channelRecord slot
 zeros-requires c κs i l =
     let k = c .before .before .before .before .before in
     let s = sized (k .before .before .before) in
@@ -30,15 +21,11 @@ zeros-requires c κs i l =
     omega (arith, spent-length (k .clear-processes .ensures))
 
 put-requires : tie.Need-put-requires
-unfolding storeCells
 put-requires c κs =
     let z = c .before .before .before in
     let k = z .before .before .before .before .before .before in
     let s = sized (k .before .before .before) in
     omega (arith, spent-length (k .clear-processes .ensures), spent-length (z .zeros .ensures))
-
-same-length : tie.Need-same-length
-same-length c = search needs
 
 returns : tie.Need-returns
 returns c =
@@ -46,17 +33,17 @@ returns c =
     let z = p .before .before .before .before in
     let k = z .before .before .before .before .before .before in
     let s = sized (k .before .before .before) in
-    all-cleared (k .before .before .before .args .topology) (z .before .before .before .channel-count-cell .ensures) (k .clear-processes .ensures)
-    (z .zeros .ensures) (p .put .ensures) (omega arith)
+    all-cleared (k .before .before .before .args .topology) (z .before .before .before .channel-count-cell .ensures)
+    (k .clear-processes .ensures) (z .zeros .ensures) (p .put .ensures) (omega arith)
 
 pub clear-spec : {M : Type 1} → statement M
 clear-spec =
     tie.close
     (tie.spec
-    clear-processes-requires
-    channel-count-cell-requires
-    cast-zeros
+    (λ c κs. let s = sized (c .before .before) in (s .processes, s .cells))
+    (λ c κs. search needs)
+    (λ c. search needs)
     zeros-requires
     put-requires
-    same-length
+    (λ c. search needs)
     returns)

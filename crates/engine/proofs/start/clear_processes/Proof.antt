@@ -1,15 +1,15 @@
--- `engine::start::clear_processes` meets its contract. The loop's invariant: the writes for the first p processes were made, as far as the
--- budget lasts.
+-- `engine::start::clear_processes` meets its contract. The loop's invariant: the writes for the first p processes
+-- were made, as far as the budget lasts.
 use borrow.Author.Needs.{needs}
 use native.Mathlib.Omega.{arith}
 use Prim.Native.Nat.{_-_, _≤_}
 use mathlib.Core.Path.{_≡_}
 use Rattle.model.specs.Notation.{concatBelow}
-use Rattle.model.specs.Layout.{storeCells, slot, processRecord, checkpointCell}
-use Rattle.engine.specs.Spent.{Spent}
-use Rattle.engine.proofs.Lists.{concat-more}
+use Rattle.model.specs.Layout.{slot, processRecord, physicalCell}
+use Rattle.engine.specs.Spent.{Spent, clearProcess}
+use Rattle.model.proofs.laws.Lists.{concat-more}
 use Rattle.engine.proofs.Stores.{none-spent, spent-then, spent-length}
-use Rattle.engine.proofs.Starts.{clearProcess, two-zeros}
+use Rattle.engine.proofs.Clearing.{two-zeros}
 use Rattle.engine.proofs.start.clear_processes.Statement.{statement}
 use Rattle.engine.proofs.start.clear_processes.Tie as tie
 
@@ -23,29 +23,19 @@ loop-holds : tie.Need-loop-holds Inv-loop μ-loop
 unfolding concatBelow
 loop-holds c = (omega arith, none-spent _ _)
 
-checkpoint-cell-requires : tie.Need-checkpoint-cell-requires Inv-loop μ-loop
-checkpoint-cell-requires c κs = search needs
-
 zeros-requires : tie.Need-zeros-requires Inv-loop μ-loop
-unfolding checkpointCell processRecord slot storeCells
-zeros-requires c κs i l = omega (arith, c .checkpoint-cell .ensures, spent-length (c .before .before .before .loop .inv .1))
-
-add-p : tie.Need-add-p Inv-loop μ-loop
-add-p c = search needs
-
-loop-less : tie.Need-loop-less Inv-loop μ-loop
-loop-less c = search needs
+unfolding physicalCell processRecord slot
+zeros-requires c κs i l =
+    omega (arith, c .physical-cell .ensures, spent-length (c .before .before .before .loop .inv .1))
 
 loop-again : tie.Need-loop-again Inv-loop μ-loop
 loop-again c =
     let l = c .before .before .before .before .before .before .loop in
-    let at = c .before .before .before .checkpoint-cell in (
+    let at = c .before .before .before .physical-cell in (
       omega arith,
-      rw (concat-more (l .p) clearProcess, ← two-zeros (l .p) (at .result) (at .ensures)) (spent-then (l .inv .1) (c .before .before .zeros .ensures)),
+      rw (concat-more (l .p) clearProcess, ← two-zeros (l .p) (at .result) (at .ensures))
+          (spent-then (l .inv .1) (c .before .before .zeros .ensures)),
     )
-
-same-length : tie.Need-same-length Inv-loop μ-loop
-same-length c = spent-length (c .before .loop .inv .1)
 
 returns : tie.Need-returns Inv-loop μ-loop
 returns c =
@@ -60,10 +50,10 @@ clear-processes-spec =
     Inv-loop
     μ-loop
     loop-holds
-    checkpoint-cell-requires
+    (λ c κs. search needs)
     zeros-requires
-    add-p
-    loop-less
+    (λ c. search needs)
+    (λ c. search needs)
     loop-again
-    same-length
+    (λ c. spent-length (c .before .loop .inv .1))
     returns)

@@ -2,10 +2,10 @@
 use borrow.Author.Needs.{needs}
 use borrow.Author.Tests.{not-true, not-false}
 use native.Mathlib.Omega.{arith}
-use Rattle.model.specs.Layout.{storeCells, lineCell, cell, slot, processRecord, channelRecord, countCell}
+use Rattle.model.specs.Layout.{cell, slot, processRecord, channelRecord, countCell}
 use Rattle.model.specs.Start.{storedLine}
-use Rattle.model.proofs.store.Store.{Sized, sized-start}
-use Rattle.engine.proofs.Recovers.{messages-over, messages-fit}
+use Rattle.model.proofs.store.Sizes.{Sized, sized-start}
+use Rattle.engine.proofs.Recovering.{messages-over, messages-fit}
 use Rattle.engine.proofs.start.counts_fit.Statement.{statement}
 use Rattle.engine.proofs.start.counts_fit.Tie as tie
 
@@ -13,45 +13,37 @@ use Rattle.engine.proofs.start.counts_fit.Tie as tie
 sized : (c : tie.Start) → Sized (c .args .topology) (c .args .store .now)
 sized c = sized-start (c .args .topology) (c .args .store .now) (c .pre)
 
-shared-slice-read-line : tie.Need-shared-slice-read-line
-unfolding storeCells
-shared-slice-read-line c = omega (arith, sized (c .before .before) .cells)
-
-message-count-cell-requires : tie.Need-message-count-cell-requires
-message-count-cell-requires c κs = search needs
-
 at-most-requires : tie.Need-at-most-requires
-unfolding countCell processRecord slot storeCells
+unfolding countCell processRecord slot
 at-most-requires c κs i l = let s = sized (c .before .before .before) in omega (arith, c .message-count-cell .ensures)
 
 returns : tie.Need-returns
-unfolding storedLine cell lineCell
+unfolding storedLine cell
 returns c =
     let m = c .before .before in
     messages-over _ _ (m .message-count-cell .ensures) (c .before .at-most .ensures) (not-true _ (c .if1 .taken))
 
-channel-count-cell-requires : tie.Need-channel-count-cell-requires
-channel-count-cell-requires c κs = search needs
-
 at-most-requires-2 : tie.Need-at-most-requires-2
-unfolding countCell channelRecord slot storeCells
-at-most-requires-2 c κs i l = let s = sized (c .before .before .before .before .before .before) in omega (arith, c .channel-count-cell .ensures)
+unfolding countCell channelRecord slot
+at-most-requires-2 c κs i l =
+    let s = sized (c .before .before .before .before .before .before) in
+    omega (arith, c .channel-count-cell .ensures)
 
 returns-2 : tie.Need-returns-2
-unfolding storedLine cell lineCell
+unfolding storedLine cell
 returns-2 c =
     let e = c .before .before in
-    messages-fit _ _ (e .before .before .message-count-cell .ensures) (e .before .at-most .ensures) (not-false _ (e .if1 .left))
-    (c .before .channel-count-cell .ensures) (c .at-most2 .ensures)
+    messages-fit _ _ (e .before .before .message-count-cell .ensures) (e .before .at-most .ensures)
+    (not-false _ (e .if1 .left)) (c .before .channel-count-cell .ensures) (c .at-most2 .ensures)
 
 pub counts-fit-spec : {M : Type 1} → statement M
 counts-fit-spec =
     tie.close
     (tie.spec
-    shared-slice-read-line
-    message-count-cell-requires
+    (λ c. omega (arith, sized (c .before .before) .cells))
+    (λ c κs. search needs)
     at-most-requires
     returns
-    channel-count-cell-requires
+    (λ c κs. search needs)
     at-most-requires-2
     returns-2)

@@ -4,8 +4,8 @@ use mathlib.Core.Option.{none}
 use lib.ListN.{length}
 use Rattle.model.specs.Start.{initialize, initializeRefusal}
 use borrow.Author.Needs.{needs}
-use Rattle.engine.specs.Verdict.{refusalOf}
-use Rattle.engine.proofs.Starts.{begins-ready, begins-refused}
+use Rattle.model.specs.Check.{refusalOf}
+use Rattle.engine.proofs.Recovering.{starts-ready, starts-refused}
 use Rattle.engine.proofs.start.initialize.Statement.{statement}
 use Rattle.engine.proofs.start.initialize.Tie as tie
 
@@ -16,50 +16,30 @@ ready : (c : tie.After-enum-told)
 unfolding refusalOf
 ready c = sym (c .before .before .admit .ensures) ∙ ap refusalOf (c .enum-told .given .1)
 
-admit-requires : tie.Need-admit-requires
-admit-requires c κs = search needs
-
-enum-told : tie.Need-enum-told
-enum-told c = search needs
-
-clear-requires : tie.Need-clear-requires
-clear-requires c κs = ready (c .before)
-
-initial-requires : tie.Need-initial-requires
-initial-requires c κs = search needs
-
-enum-known-r : tie.Need-enum-known-r
-enum-known-r c = search needs
-
-refused-requires : tie.Need-refused-requires
-refused-requires c κs = search needs
-
-same-length : tie.Need-same-length
-same-length c = search needs
-
 returns : tie.Need-returns
 unfolding initialize
 returns c =
     let k = c .before .before .before in
-    rw (k .clear .ensures) (begins-ready _ _ _ _ (ready (k .before .before)) refl (c .initial .ensures))
+    rw (k .clear .ensures) (starts-ready _ _ _ _ (ready (k .before .before)) refl (c .initial .ensures))
 
 returns-2 : tie.Need-returns-2
 unfolding initialize refusalOf
 returns-2 c =
     let r = c .before .before in
-    begins-refused _ _ _ (c .refused .result) _ (sym (r .before .before .admit .ensures) ∙ ap refusalOf (r .r .given .1))
+    starts-refused _ _ _ (c .refused .result) _
+    (sym (r .before .before .admit .ensures) ∙ ap refusalOf (r .r .given .1))
     (c .refused .ensures .0) (c .refused .ensures .1)
 
 pub initialize-spec : {M : Type 1} → statement M
 initialize-spec =
     tie.close
     (tie.spec
-    admit-requires
-    enum-told
-    clear-requires
-    initial-requires
-    enum-known-r
-    refused-requires
-    same-length
+    (λ c κs. search needs)
+    (λ c. search needs)
+    (λ c κs. ready (c .before))
+    (λ c κs. search needs)
+    (λ c. search needs)
+    (λ c κs. search needs)
+    (λ c. search needs)
     returns
     returns-2)

@@ -3,69 +3,50 @@ use mathlib.Core.Path.{_≡_, refl, sym, ap, _∙_}
 use mathlib.Core.Option.{none}
 use borrow.Author.Needs.{needs}
 use native.Mathlib.Omega.{arith}
-use Rattle.model.specs.Layout.{storeCells, lineCell, cell}
+use Rattle.model.specs.Layout.{cell}
 use Rattle.model.specs.Start.{recover, recoverRefusal, storedLine}
-use Rattle.engine.specs.Verdict.{refusalOf}
-use Rattle.engine.proofs.Starts.{begins-ready, begins-refused}
-use Rattle.engine.proofs.Recovers.{readable}
+use Rattle.model.specs.Check.{refusalOf}
+use Rattle.engine.proofs.Recovering.{starts-ready, starts-refused}
+use Rattle.engine.proofs.Recovering.{readable}
 use Rattle.engine.proofs.start.recover.Statement.{statement}
 use Rattle.engine.proofs.start.recover.Tie as tie
 
 -- past the checks there is no refusal
-ready : (c : tie.After-enum-told) → let a = c .before .before .before .before .args in recoverRefusal (a .topology) (a .store .now) ≡ none
+ready : (c : tie.After-enum-told)
+    → let a = c .before .before .before .before .args in recoverRefusal (a .topology) (a .store .now) ≡ none
 unfolding refusalOf
 ready c = sym (c .before .before .admit-store .ensures) ∙ ap refusalOf (c .enum-told .given .1)
 
-admit-store-requires : tie.Need-admit-store-requires
-admit-store-requires c κs = search needs
-
-enum-told : tie.Need-enum-told
-enum-told c = search needs
-
-words-requires : tie.Need-words-requires
-words-requires c κs = ready c
-
-channels-requires : tie.Need-channels-requires
-channels-requires c κs = ready (c .before)
-
 shared-slice-read-idle : tie.Need-shared-slice-read-idle
-unfolding storeCells
 shared-slice-read-idle c = omega (arith, readable _ _ (ready (c .before .before .before)) .sized .cells)
 
-idle-requires : tie.Need-idle-requires
-idle-requires c κs = search needs
-
-enum-known-r : tie.Need-enum-known-r
-enum-known-r c = search needs
-
-refused-requires : tie.Need-refused-requires
-refused-requires c κs = search needs
-
 returns : tie.Need-returns
-unfolding recover storedLine lineCell cell
+unfolding recover storedLine cell
 returns c =
     let n = c .before .before in
     let t = n .before .before in
-    begins-ready _ _ _ _ (ready t) refl (rw (← (n .before .words .ensures), ← (n .channels .ensures)) (c .idle .ensures))
+    starts-ready _ _ _ _ (ready t) refl
+    (rw (← (n .before .words .ensures), ← (n .channels .ensures)) (c .idle .ensures))
 
 returns-2 : tie.Need-returns-2
 unfolding recover refusalOf
 returns-2 c =
     let r = c .before .before in
-    begins-refused _ _ _ (c .refused .result) _ (sym (r .before .before .admit-store .ensures) ∙ ap refusalOf (r .r .given .1))
+    starts-refused _ _ _ (c .refused .result) _
+    (sym (r .before .before .admit-store .ensures) ∙ ap refusalOf (r .r .given .1))
     (c .refused .ensures .0) (c .refused .ensures .1)
 
 pub recover-spec : {M : Type 1} → statement M
 recover-spec =
     tie.close
     (tie.spec
-    admit-store-requires
-    enum-told
-    words-requires
-    channels-requires
+    (λ c κs. search needs)
+    (λ c. search needs)
+    (λ c κs. ready c)
+    (λ c κs. ready (c .before))
     shared-slice-read-idle
-    idle-requires
-    enum-known-r
-    refused-requires
+    (λ c κs. search needs)
+    (λ c. search needs)
+    (λ c κs. search needs)
     returns
     returns-2)

@@ -5,12 +5,9 @@ use Rattle.model.specs.State.{blankState, blankTopology}
 use Rattle.engine.proofs.start.refused.Statement.{statement}
 use Rattle.engine.proofs.start.refused.Tie as tie
 
-initial-requires : tie.Need-initial-requires
-initial-requires c κs = search needs
-
 returns : tie.Need-returns
 unfolding blankState blankTopology
 returns c = (refl, c .initial .ensures)
 
 pub refused-spec : {M : Type 1} → statement M
-refused-spec = tie.close (tie.spec initial-requires returns)
+refused-spec = tie.close (tie.spec (λ c κs. search needs) returns)

@@ -1,23 +1,20 @@
--- `engine::store::zeros` meets its contract. The loop's invariant: the first i writes were made, as far as the budget lasts.
+-- `engine::store::zeros` meets its contract. The loop's invariant: the first i writes were made, as far as the budget
+-- lasts.
 use borrow.Author.Needs.{needs}
 use native.Mathlib.Omega.{arith}
 use mathlib.Core.Path.{_≡_}
-use Prim.Native.Nat.{ℕ, _+_, _-_, _*_, _<_, _≤_}
+use Prim.Native.Nat.{_+_, _-_, _*_, _<_, _≤_}
 use lib.ListN.{length}
 use Rattle.model.specs.Notation.{tabulate}
-use Rattle.model.specs.Write.{Write}
-use Rattle.engine.specs.Spent.{Spent}
-use Rattle.engine.proofs.Lists.{tabulate-more}
+use Rattle.engine.specs.Spent.{Spent, zeroWrite}
+use Rattle.model.proofs.laws.Lists.{tabulate-more}
 use Rattle.engine.proofs.Stores.{none-spent, spent-then, spent-length}
 use Rattle.engine.proofs.store.zeros.Statement.{statement}
 use Rattle.engine.proofs.store.zeros.Tie as tie
 
--- the write into the cell that turn i is for
-abbrev zeroAt : ℕ → ℕ → ℕ → Write
-zeroAt first stride i = record { cell = first + stride * i; value = 0 }
-
 abbrev Inv-loop : tie.InvT-loop
-Inv-loop store₀ budget first stride n left₀ i₀ store left i = (i ≤ n) × Spent store₀ budget (tabulate i (zeroAt first stride)) store left
+Inv-loop store₀ budget first stride n left₀ i₀ store left i =
+    (i ≤ n) × Spent store₀ budget (tabulate i (λ j. zeroWrite (first + stride * j))) store left
 
 abbrev μ-loop : tie.MeasureT-loop
 μ-loop store₀ budget first stride n left₀ i₀ store left i = n - i
@@ -28,31 +25,14 @@ loop-holds c = (omega arith, none-spent _ _)
 
 -- the cell of this turn is in the store
 within : (c : tie.After-put-arg Inv-loop μ-loop)
-    → let a = c .before .before .before .before .args in a .first + a .stride * c .before .before .loop .i < length (a .store .now)
+    → let a = c .before .before .before .before .args in
+    a .first + a .stride * c .before .before .loop .i < length (a .store .now)
 within c = c .before .before .before .before .pre (c .before .before .loop .i) (c .before .loop-test .taken)
-
-mul-put : tie.Need-mul-put Inv-loop μ-loop
-mul-put c = omega (arith, within c)
-
-add-put : tie.Need-add-put Inv-loop μ-loop
-add-put c = omega (arith, within c)
-
-put-requires : tie.Need-put-requires Inv-loop μ-loop
-put-requires c κs = omega (arith, within c, spent-length (c .before .before .loop .inv .1))
-
-add-i : tie.Need-add-i Inv-loop μ-loop
-add-i c = search needs
-
-loop-less : tie.Need-loop-less Inv-loop μ-loop
-loop-less c = search needs
 
 loop-again : tie.Need-loop-again Inv-loop μ-loop
 loop-again c =
     let l = c .before .before .before .before .before .loop in
     (omega arith, rw tabulate-more (spent-then (l .inv .1) (c .before .before .put .ensures)))
-
-same-length : tie.Need-same-length Inv-loop μ-loop
-same-length c = spent-length (c .before .loop .inv .1)
 
 returns : tie.Need-returns Inv-loop μ-loop
 returns c =
@@ -67,11 +47,11 @@ zeros-spec =
     Inv-loop
     μ-loop
     loop-holds
-    mul-put
-    add-put
-    put-requires
-    add-i
-    loop-less
+    (λ c. omega (arith, within c))
+    (λ c. omega (arith, within c))
+    (λ c κs. omega (arith, within c, spent-length (c .before .before .loop .inv .1)))
+    (λ c. search needs)
+    (λ c. search needs)
     loop-again
-    same-length
+    (λ c. spent-length (c .before .loop .inv .1))
     returns)

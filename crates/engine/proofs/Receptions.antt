@@ -1,0 +1,286 @@
+-- How a receive's parts make up what the definition has: whether a log needed is full, the writes, the counts, the
+-- state after it, and the two ways in which an attempt is stopped.
+use Prim.Native.Nat.{ℕ, _+_, _*_, _<_, _≤_, _%_, _^_}
+use mathlib.Core.Path.{_≡_, refl, sym, ap, subst, _∙_}
+use mathlib.Core.Bool.{Bool, true, false, cond, not, _&&_, _||_, Bool·beq}
+use mathlib.Core.List.{List, _++_}
+use mathlib.Core.Option.{none, some}
+use mir.Val.{boolByte}
+use lib.ListN.{length, getD, set, take}
+use lib.Dec.{leb}
+use borrow.Author.Tests.{lt-ltb, le-ltb, leb-false}
+use native.Mathlib.Omega.{arith}
+use native.Mathlib.Nat.{min-eq-left, min-eq-right}
+use Rattle.model.specs.declared.Counts.{Counts}
+use Rattle.model.specs.declared.Entry.{Entry}
+use Rattle.model.specs.declared.Entry.the-variants.{Message, Marker}
+use Rattle.model.specs.declared.Outcome.{Outcome}
+use Rattle.model.specs.declared.Outcome.the-variants.{Refused, PowerLost}
+use Rattle.model.specs.declared.Refusal.{Refusal}
+use Rattle.model.specs.Notation.{upd}
+use Rattle.model.specs.Check.{firstRefusal}
+use Rattle.model.specs.Channel.{bodyOf}
+use Rattle.model.specs.Layout.{storeCells, slot, processRecord, channelRecord, Log, messageLog, channelLog}
+use Rattle.model.specs.Layout.{messagePlaces, channelPlaces, countCell, entryCell}
+use Rattle.model.specs.State.{GlobalState, Progress, LogCounts, raised, raisedAll, viewCounts}
+use Rattle.model.specs.Change.{withWord, withTag, withChannel, withProgress, withCounts, withLogical, withClosed}
+use Rattle.model.specs.Change.{setEntries, enterBody, logicalCheckpoint, close}
+use Rattle.model.specs.Receive.{anyFull}
+use Rattle.model.specs.Receive as receive
+use Rattle.model.specs.Write.{underBudget, writeAll, logWrites, logsWrites}
+use Rattle.model.specs.Step.{react, quietly, receivedOutcome}
+use Rattle.model.specs.Outcome.{accepted}
+use Rattle.model.proofs.laws.Tests.{true-is-not-false, or-left, or-true, or-false}
+use Rattle.model.proofs.laws.Functions.{upd-unchanged, seen-set}
+use Rattle.rules.specs.declared.reaction.Reaction.{Reaction}
+use Rattle.rules.specs.Reacting.{logIf, viewReaction}
+use Rattle.engine.specs.declared.receive.Setting.{Setting}
+use Rattle.engine.specs.Spent.{Spent, appendIf}
+use Rattle.engine.specs.Receiving.{InArrays, full, receiveChecks, bodyWrites, wordAfter, progressAfter}
+use Rattle.engine.specs.Receiving.{unlessRefused, Attempts}
+use Rattle.engine.proofs.Promises.{unbudgeted}
+use Rattle.engine.proofs.Views.{same-state}
+
+pub a-bit : (t : Bool) → boolByte t ≤ 1
+a-bit true = omega arith
+a-bit false = omega arith
+
+-- the two logs that a body may go into, by their channel and their process
+module _ (n : LogCounts) (c p : ℕ) where
+  either-full : (a b : Bool)
+      → anyFull n (logIf a (channelLog c) ++ logIf b (messageLog p))
+      ≡ ((a && leb channelPlaces (n .channels c)) || (b && leb messagePlaces (n .messages p)))
+  unfolding anyFull
+  either-full true true = ap (λ (t : Bool). leb channelPlaces (n .channels c) || t) (or-false _)
+  either-full true false = refl
+  either-full false true = or-false _
+  either-full false false = refl
+
+  pub both-written : (line body : ℕ) (a b : Bool)
+      → logsWrites line n (logIf a (channelLog c) ++ logIf b (messageLog p)) body
+      ≡ appendIf a (countCell line (channelLog c)) (n .channels c) body
+      ++ appendIf b (countCell line (messageLog p)) (n .messages p) body
+  unfolding logsWrites logWrites
+  both-written line body true true = refl
+  both-written line body true false = refl
+  both-written line body false true = refl
+  both-written line body false false = refl
+
+-- an append at a cell that is known by another name
+pub moved : {st st′ : List ℕ} {b b′ : ℕ} (t : Bool) (at at′ count body : ℕ) → at ≡ at′
+    → Spent st b (appendIf t at count body) st′ b′ → Spent st b (appendIf t at′ count body) st′ b′
+moved {st} {st′} {b} {b′} t at at′ count body e p = subst (λ (a : ℕ). Spent st b (appendIf t a count body) st′ b′) e p
+
+-- how many writes that are
+pub both-cost : (a b : Bool) (m k i j body : ℕ)
+    → length (appendIf a m i body ++ appendIf b k j body) ≡ 2 * (boolByte a + boolByte b)
+both-cost true true m k i j body = refl
+both-cost true false m k i j body = refl
+both-cost false true m k i j body = refl
+both-cost false false m k i j body = refl
+
+-- the slot goes by the line's parity, so that a line that wraps has the right one
+pub same-cell : (k : ℕ) (log : Log) → countCell ((k + 1) % 2 ^ 32) log ≡ countCell (k + 1) log
+unfolding countCell processRecord channelRecord slot
+same-cell k (messageLog p) = omega arith
+same-cell k (channelLog c) = omega arith
+
+-- a test of two, each of them one of two, that fails
+first : (t : Bool) (m k : ℕ) (u : Bool) → t ≡ true → ((t && leb m k) || u) ≡ false → k < m
+first true m k u e f = leb-false m k (or-left (leb m k) u f)
+first false m k u e f = true-is-not-false e refl
+
+second : (t u : Bool) (m k : ℕ) → t ≡ true → (u || (t && leb m k)) ≡ false → k < m
+second true true m k e f = true-is-not-false refl f
+second true false m k e f = leb-false m k f
+second false u m k e f = true-is-not-false e refl
+
+module _ (x : Reaction) (a : Setting) where
+  pub full-test : full x a
+      ≡ ((x .«channel_log» && leb channelPlaces (getD (a .counts .channels) (a .channel) 0))
+      || (x .«message_log» && leb messagePlaces (getD (a .counts .messages) (a .receiver) 0)))
+  unfolding viewReaction viewCounts
+  full-test = either-full (viewCounts (a .counts)) (a .channel) (a .receiver) (x .«channel_log») (x .«message_log»)
+
+  -- no log needed is full: the place for one entry more is in the store
+  module _ (h : InArrays a) (roomy : full x a ≡ false) (line : ℕ) where
+    pub channel-place : x .«channel_log» ≡ true
+        → entryCell (countCell line (channelLog (a .channel))) (getD (a .counts .channels) (a .channel) 0) < storeCells
+    unfolding countCell channelRecord slot
+    channel-place e = omega (arith, h .channel, below)
+      where
+        below : getD (a .counts .channels) (a .channel) 0 < channelPlaces
+        below = first (x .«channel_log») channelPlaces _ _ e (sym full-test ∙ roomy)
+
+    pub message-place : x .«message_log» ≡ true
+        → entryCell (countCell line (messageLog (a .receiver))) (getD (a .counts .messages) (a .receiver) 0)
+        < storeCells
+    unfolding countCell processRecord slot
+    message-place e = omega (arith, h .receiver, below)
+      where
+        below : getD (a .counts .messages) (a .receiver) 0 < messagePlaces
+        below =
+            second (x .«message_log»)
+            (x .«channel_log» && leb channelPlaces (getD (a .counts .channels) (a .channel) 0)) messagePlaces _ e
+            (sym full-test ∙ roomy)
+
+-- the counts after it
+module _ (n : Counts) (c p : ℕ) (inChannels : c < length (n .channels)) (inMessages : p < length (n .messages)) where
+  abbrev counted : Bool → Bool → Counts
+  counted a b =
+      record {
+        messages = set (n .messages) p (getD (n .messages) p 0 + boolByte b);
+        channels = set (n .channels) c (getD (n .channels) c 0 + boolByte a);
+      }
+
+  abbrev raisedIf : Bool → List ℕ → ℕ → ℕ → ℕ
+  raisedIf t l i = cond t (upd (λ j. getD l j 0) i (getD l i 0 + 1)) (λ j. getD l j 0)
+
+  more : (l : List ℕ) (i : ℕ) → i < length l → (t : Bool)
+      → _≡_ {A = ℕ → ℕ} (λ j. getD (set l i (getD l i 0 + boolByte t)) j 0) (raisedIf t l i)
+  more l i h true = seen-set (λ v. v) l i (getD l i 0 + 1) 0 h
+  more l i h false = seen-set (λ v. v) l i (getD l i 0 + 0) 0 h ∙ same-there
+    where
+      e : getD l i 0 + 0 ≡ getD l i 0
+      e = omega arith
+
+      same-there : upd (λ j. getD l j 0) i (getD l i 0 + 0) ≡ (λ j. getD l j 0)
+      same-there = rw e (upd-unchanged (λ j. getD l j 0) i)
+
+  abbrev both : (a b : Bool)
+      → _≡_ {A = LogCounts}
+      (record {
+        messages = λ j. getD (counted a b .messages) j 0;
+        channels = λ j. getD (counted a b .channels) j 0;
+      })
+      (record {
+        messages = raisedIf b (n .messages) p;
+        channels = raisedIf a (n .channels) c;
+      })
+  both a b =
+      λ i. record { messages = more (n .messages) p inMessages b i; channels = more (n .channels) c inChannels a i }
+
+  pub counts-raised : (a b : Bool)
+      → viewCounts (counted a b) ≡ raisedAll (logIf a (channelLog c) ++ logIf b (messageLog p)) (viewCounts n)
+  unfolding viewCounts raisedAll raised
+  counts-raised true true = both true true
+  counts-raised true false = both true false
+  counts-raised false true = both false true
+  counts-raised false false = both false false
+
+-- a flag raised, and a tag turned over, where that is so
+flag-after : (f : ℕ → Bool) (i : ℕ) (t : Bool) → cond t (upd f i true) f ≡ upd f i (f i || t)
+flag-after f i true = ap (upd f i) (sym (or-true (f i)))
+flag-after f i false = sym (ap (upd f i) (or-false (f i)) ∙ upd-unchanged f i)
+
+tag-after : (f : ℕ → Bool) (i : ℕ) (t : Bool) → cond t (upd f i (not (f i))) f ≡ upd f i (not (Bool·beq (f i) t))
+tag-after f i true = ap (upd f i) (sym (turned (f i)))
+  where
+    turned : (t : Bool) → not (Bool·beq t true) ≡ not t
+    turned true = refl
+    turned false = refl
+tag-after f i false = sym (ap (upd f i) (kept (f i)) ∙ upd-unchanged f i)
+  where
+    kept : (t : Bool) → not (Bool·beq t false) ≡ t
+    kept true = refl
+    kept false = refl
+
+-- the state after it, part by part
+module _ (c r : ℕ) (s : GlobalState) where
+  word-entered : (e : Entry) → enterBody r e s ≡ withWord (upd (s .word) r (wordAfter e (s .word r))) s
+  unfolding enterBody withWord wordAfter
+  word-entered (Message b t) = refl
+  word-entered Marker = same-state refl refl (sym (upd-unchanged (s .word) r)) refl refl refl refl
+
+  abbrev saved : Bool → GlobalState
+  saved first = cond first (logicalCheckpoint r s) s
+
+  abbrev reacted : Bool → Bool → GlobalState
+  reacted first closes =
+      withTag (upd (s .tag) r (not (Bool·beq (s .tag r) first)))
+      (withProgress (progressAfter first closes c r (s .progress)) s)
+
+  -- its progress
+  abbrev raised-flags : (first closes : Bool)
+      → _≡_ {A = Progress}
+      (record {
+        logical = cond first (upd (s .progress .logical) r true) (s .progress .logical);
+        closed = cond closes (upd (s .progress .closed) c true) (s .progress .closed);
+        sent = s .progress .sent;
+      })
+      (record {
+        logical = upd (s .progress .logical) r (s .progress .logical r || first);
+        closed = upd (s .progress .closed) c (s .progress .closed c || closes);
+        sent = s .progress .sent;
+      })
+  raised-flags first closes =
+      λ i. record {
+        logical = flag-after (s .progress .logical) r first i;
+        closed = flag-after (s .progress .closed) c closes i;
+        sent = s .progress .sent;
+      }
+
+  reacts : (first closes : Bool) → cond closes (close c (saved first)) (saved first) ≡ reacted first closes
+  unfolding close logicalCheckpoint withTag withProgress withLogical withClosed progressAfter
+  reacts true true = same-state refl refl refl (tag-after (s .tag) r true) refl (raised-flags true true) refl
+  reacts true false = same-state refl refl refl (tag-after (s .tag) r true) refl (raised-flags true false) refl
+  reacts false true = same-state refl refl refl (tag-after (s .tag) r false) refl (raised-flags false true) refl
+  reacts false false = same-state refl refl refl (tag-after (s .tag) r false) refl (raised-flags false false) refl
+
+pub received : (c r : ℕ) (s : GlobalState) (x : receive.Reaction) (e : Entry) (es : List Entry)
+    → enterBody r e (setEntries c es (react x c r s))
+    ≡ record {
+      topology = s .topology;
+      round = s .round;
+      word = upd (s .word) r (wordAfter e (s .word r));
+      tag = upd (s .tag) r (not (Bool·beq (s .tag r) (x .logicalFirst)));
+      channel = upd (s .channel) c es;
+      progress = progressAfter (x .logicalFirst) (x .closes) c r (s .progress);
+      counts = raisedAll (x .logs) (s .counts);
+    }
+unfolding react setEntries withWord withTag withChannel withProgress withCounts
+received c r s x e es =
+    ap (λ (t : GlobalState). enterBody r e (setEntries c es t))
+    (reacts c r (withCounts (raisedAll (x .logs) (s .counts)) s) (x .logicalFirst) (x .closes))
+    ∙ word-entered c r _ e
+
+received-accepted : (e : Entry) → accepted (receivedOutcome e) ≡ true
+unfolding receivedOutcome accepted
+received-accepted (Message b t) = refl
+received-accepted Marker = refl
+
+-- The three ways in which an attempt goes.
+module _ (x : Reaction) (a : Setting) (e : Entry) (line : ℕ) (before : List ℕ) (budget : ℕ) where
+  pub attempt-refused : (n : Refusal) → firstRefusal (receiveChecks x a) ≡ some n
+      → Attempts x a e line before budget (record { received = false; outcome = Refused n; made = 0 }) before
+  unfolding unlessRefused quietly accepted
+  attempt-refused n h =
+      record {
+        answered = λ s next. rw h (unbudgeted budget s before (quietly (Refused n) s) refl);
+        received = refl;
+        passed = λ f. true-is-not-false f refl;
+      }
+
+  module _ (h : firstRefusal (receiveChecks x a) ≡ none) (after : List ℕ)
+      (written : after ≡ writeAll before (take budget (bodyWrites x a line (bodyOf e)))) where
+    pub attempt-lost : budget < length (bodyWrites x a line (bodyOf e))
+        → Attempts x a e line before budget (record { received = false; outcome = PowerLost; made = budget }) after
+    unfolding unlessRefused underBudget accepted
+    attempt-lost l =
+        let k : budget ≤ length (bodyWrites x a line (bodyOf e)) = omega arith in
+        record {
+          answered = λ s next. rw (h, written, lt-ltb budget _ l, min-eq-left k);
+          received = refl;
+          passed = λ f. h;
+        }
+
+    pub attempt-done : length (bodyWrites x a line (bodyOf e)) ≤ budget → (o : Outcome) → o ≡ receivedOutcome e
+        → (n : ℕ) → n ≡ length (bodyWrites x a line (bodyOf e))
+        → Attempts x a e line before budget (record { received = true; outcome = o; made = n }) after
+    unfolding unlessRefused underBudget
+    attempt-done l o p n q =
+        record {
+          answered = λ s next. rw (h, written, p, q, le-ltb budget _ l, min-eq-right l);
+          received = rw p (received-accepted e);
+          passed = λ f. h;
+        }
