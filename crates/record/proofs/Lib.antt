@@ -2,5 +2,4 @@
 pub mod FieldLaws
 pub mod KindLaws
 pub mod ParseLaws
-pub mod PackLaws
-pub mod RoundTrip
+pub mod ReadsBack

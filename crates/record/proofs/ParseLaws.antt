@@ -10,24 +10,25 @@ use borrow.Author.Tests.{eq-eqb, ne-eqb}
 use native.Mathlib.Omega.{arith}
 use Rattle.model.specs.declared.Record.{Record}
 use Rattle.model.specs.Record as model
-use Rattle.model.specs.Record.{andThen, stands, goodMap, fieldsAfter, readFields, withRest, readField, readByte, readBody}
+use Rattle.model.specs.Record.{andThen, stands, goodMap, fieldsAfter, readFields, withRest}
+use Rattle.model.specs.Record.{readField, readByte, readBody}
 use Rattle.record.specs.declared.field.Field.{Field}
 use Rattle.record.specs.declared.field.Field.the-variants.{Value, Broken}
-use Rattle.record.specs.Field.{readingIn, Within, Reads}
+use Rattle.record.specs.Field.{readingIn, Fit, Within, Reads}
 use Rattle.record.specs.declared.parse.Parsed.{Parsed}
 use Rattle.record.specs.Reading.{answered, remaining}
 use Rattle.record.specs.Parse.{Parses, unread, wholeOf}
 use Rattle.record.specs.Kind.{fields, decided}
 
 -- bytes that don't read
-pub unread-parses : {reading : model.Reading Record} {bytes : List ℕ} {p : Parsed} → reading ≡ none → p ≡ unread → Parses reading bytes p
+pub unread-parses : {reading : model.Reading Record} {bytes : List ℕ} {p : Parsed} → reading ≡ none → p ≡ unread
+    → Parses reading bytes p
 unfolding answered remaining
 unread-parses e q = record { answer = rw (e, q); rest = rw (e, q); within = rw q (omega arith) }
 
 -- the end of a reading
-pub whole-parses :
-    {bytes : List ℕ} (o : Option Record) (next : ℕ) → next ≤ length bytes →
-    Parses (withRest o (drop next bytes)) bytes (wholeOf (decided o) next)
+pub whole-parses : {bytes : List ℕ} (o : Option Record) (next : ℕ) → next ≤ length bytes
+    → Parses (withRest o (drop next bytes)) bytes (wholeOf (decided o) next)
 unfolding answered remaining withRest wholeOf
 whole-parses none next h = unread-parses refl refl
 whole-parses (some r) next h = record { answer = refl; rest = refl; within = h }
@@ -53,27 +54,27 @@ bad-map [] e = refl
 bad-map (m ∷ []) e = refl
 bad-map (m ∷ kind ∷ bytes) e = rw e
 
-pub good-map :
-    (bytes : List ℕ) → 2 ≤ length bytes → goodMap (getD bytes 0 0) ≡ true →
-    readFields bytes ≡ fieldsAfter (getD bytes 0 0) (getD bytes 1 0) (drop 2 bytes)
+pub good-map : (bytes : List ℕ) → 2 ≤ length bytes → goodMap (getD bytes 0 0) ≡ true
+    → readFields bytes ≡ fieldsAfter (getD bytes 0 0) (getD bytes 1 0) (drop 2 bytes)
 unfolding readFields
 good-map [] h e = absurd (omega arith)
 good-map (m ∷ []) h e = absurd (omega arith)
 good-map (m ∷ kind ∷ bytes) h e = rw e
 
 -- a field, and what is read after it
-module _ {read : List ℕ → model.Reading ℕ} {present : Bool} {bytes : List ℕ} {at limit : ℕ} {r : Field} (h : Reads read present bytes at limit r) where
-  broken-then : {A : Type 0} (f : ℕ → List ℕ → model.Reading A) → r ≡ Broken → andThen (readField present read (drop at bytes)) f ≡ none
+module _ {read : List ℕ → model.Reading ℕ} {present : Bool} {bytes : List ℕ} {at limit : ℕ} {r : Field}
+    (h : Reads read present bytes at limit r) where
+  broken-then : {A : Type 0} (f : ℕ → List ℕ → model.Reading A) → r ≡ Broken
+      → andThen (readField present read (drop at bytes)) f ≡ none
   unfolding readingIn andThen
   broken-then f q = rw (← h .field, q)
 
-  value-then :
-      {A : Type 0} {value next : ℕ} (f : ℕ → List ℕ → model.Reading A) →
-      r ≡ Value value next → andThen (readField present read (drop at bytes)) f ≡ f value (drop next bytes)
+  value-then : {A : Type 0} {value next : ℕ} (f : ℕ → List ℕ → model.Reading A) → r ≡ Value value next
+      → andThen (readField present read (drop at bytes)) f ≡ f value (drop next bytes)
   unfolding readingIn andThen
   value-then f q = rw (← h .field, q)
 
-  pub value-within : {value next : ℕ} → r ≡ Value value next → (value < limit) × (next ≤ length bytes)
+  pub value-within : {value next : ℕ} → r ≡ Value value next → Fit bytes limit value next
   value-within q = subst (Within bytes limit) q (h .within)
 
 -- the three fields, one after the other: the first that doesn't read, or all
@@ -92,6 +93,7 @@ module _ (m kind : ℕ) {bytes : List ℕ} {r₁ : Field} (h₁ : Reads readByte
       unfolding fieldsAfter
       no-body q = value-then h₁ _ q₁ ∙ (value-then h₂ _ q₂ ∙ broken-then h₃ _ q)
 
-      pub all-fields : {body next : ℕ} → r₃ ≡ Value body next → fieldsAfter m kind (drop 2 bytes) ≡ some (fields kind p c body, drop next bytes)
+      pub all-fields : {body next : ℕ} → r₃ ≡ Value body next
+          → fieldsAfter m kind (drop 2 bytes) ≡ some (fields kind p c body, drop next bytes)
       unfolding fieldsAfter
       all-fields q = value-then h₁ _ q₁ ∙ (value-then h₂ _ q₂ ∙ value-then h₃ _ q)

@@ -15,14 +15,19 @@ readingIn bytes Broken = none
 readingIn bytes (Value value next) = some (value, drop next bytes)
 
 -- "a present one may not be 0"
-unfoldable pub unlessZero : ℕ → ℕ → Field
+abbrev pub unlessZero : ℕ → ℕ → Field
 unlessZero value next = cond (absent value) Broken (Value value next)
 
 -- a value is below the limit, and the bytes after it are a part of the bytes
+pub record Fit (bytes : List ℕ) (limit v n : ℕ) : Type 0 where
+  pub value : v < limit
+  pub next : n ≤ length bytes
+
 abbrev pub Within : List ℕ → ℕ → Field → Type 0
 Within bytes limit Broken = Unit
-Within bytes limit (Value value next) = (value < limit) × (next ≤ length bytes)
+Within bytes limit (Value value next) = Fit bytes limit value next
 
-pub record Reads (read : List ℕ → Reading ℕ) (present : Bool) (bytes : List ℕ) (at limit : ℕ) (r : Field) : Type 0 where
+pub record Reads (read : List ℕ → Reading ℕ) (present : Bool) (bytes : List ℕ) (at limit : ℕ) (r : Field)
+    : Type 0 where
   pub field : readingIn bytes r ≡ readField present read (drop at bytes)
   pub within : Within bytes limit r

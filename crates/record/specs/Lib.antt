@@ -1,8 +1,7 @@
--- What the reader and the writer promise, in terms of model's specs/Record.antt: Reading and Written are the public promises, the others those of
--- the functions behind them.
+-- What the reader and the writer promise, in terms of model's specs/Record.antt: Reading and Written are the public
+-- promises, the others those of the functions behind them.
 pub mod Reading
 pub mod Written
 pub mod Field
 pub mod Kind
 pub mod Parse
-pub mod Pack

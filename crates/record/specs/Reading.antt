@@ -14,6 +14,6 @@ answered none = Refused Malformed
 answered (some r) = Read (r .0)
 
 -- "and the rest of the bytes, as a part of the caller's slice": all of them where they are refused
-unfoldable pub remaining : model.Reading Record → List ℕ → List ℕ
+unfoldable pub remaining : {A : Type 0} → model.Reading A → List ℕ → List ℕ
 remaining none bytes = bytes
 remaining (some r) bytes = r .1

@@ -7,7 +7,7 @@ use Rattle.model.specs.Record.{writeRecord}
 use Rattle.record.specs.declared.Written.{Written}
 
 -- the longest record is a send: map, kind, channel and 4 bytes of body
-unfoldable pub longest : ℕ
+abbrev pub longest : ℕ
 longest = 7
 
 -- bytes and their number, with 0 in the places after them

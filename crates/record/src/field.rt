@@ -1,8 +1,8 @@
 // The fields of a record: the weights of their bits in the map, and the reading of one field.
 ghost use mathlib.Core.Path.{_≡_};
-ghost use Prim.Native.Nat.{_+_, _*_, _≤_};
+ghost use Prim.Native.Nat.{_≤_};
 ghost use lib.ListN.{length};
-ghost use Rattle.model.specs.Record.{readByte, readBody};
+ghost use Rattle.model.specs.Record.{lowestFirst, readByte, readBody};
 ghost use Rattle.record.specs.Field.{Reads, unlessZero};
 
 pub const KIND: u8 = 1;
@@ -12,6 +12,9 @@ pub const PROCESS: u8 = 2;
 pub const CHANNEL: u8 = 4;
 
 pub const BODY: u8 = 8;
+
+// Bit maps are below this: the bits after these never stand.
+pub const MAPS: u8 = 2 * BODY;
 
 // A field's value and where the bytes after it start, or that the bytes don't read as one.
 pub enum Field {
@@ -46,7 +49,7 @@ pub fn byte(bytes: &[u8], at: usize, present: bool) -> Field
 
 // 4 bytes, lowest first.
 pub fn word(a: u8, b: u8, c: u8, d: u8) -> u32
-    ensures { λ r. ⌜ r ≡ a + 256 * b + 65536 * c + 16777216 * d ⌝ }
+    ensures { λ r. ⌜ r ≡ lowestFirst a b c d ⌝ }
 {
     a as u32 + 256 * (b as u32) + 65536 * (c as u32) + 16777216 * (d as u32)
 }

@@ -4,9 +4,8 @@ mod kind;
 mod pack;
 mod parse;
 
-use crate::field::CHANNEL;
-use crate::field::PROCESS;
-use crate::pack::pack;
+use crate::pack::with_channel;
+use crate::pack::with_process;
 use crate::parse::parse;
 pub use field::word;
 use model::Record;
@@ -25,9 +24,12 @@ pub enum Reading {
     Refused(Refusal),
 }
 
+// How many bytes the longest record has: a send's map, kind, channel and 4 bytes of body.
+pub const LONGEST: usize = 7;
+
 // A record's bytes and how many they are; 0 in the places after them.
 pub struct Written {
-    pub bytes: [u8; 7],
+    pub bytes: [u8; LONGEST],
     pub count: usize,
 }
 
@@ -55,15 +57,15 @@ pub fn write(r: Record) -> Written
 {
     match r {
         Record::Call(s) => match s {
-            Step::Send { channel, body } => pack(1, CHANNEL, channel, body),
-            Step::Receive { channel } => pack(2, CHANNEL, channel, 0),
-            Step::Begin => pack(3, 0, 0, 0),
-            Step::PhysicalCheckpoint { process } => pack(4, PROCESS, process, 0),
-            Step::LogicalCheckpoint { process } => pack(5, PROCESS, process, 0),
-            Step::SendMarker { channel } => pack(6, CHANNEL, channel, 0),
-            Step::Commit => pack(7, 0, 0, 0),
-            Step::Abort => pack(8, 0, 0, 0),
+            Step::Send { channel, body } => with_channel(1, channel, body),
+            Step::Receive { channel } => with_channel(2, channel, 0),
+            Step::Begin => with_process(3, 0),
+            Step::PhysicalCheckpoint { process } => with_process(4, process),
+            Step::LogicalCheckpoint { process } => with_process(5, process),
+            Step::SendMarker { channel } => with_channel(6, channel, 0),
+            Step::Commit => with_process(7, 0),
+            Step::Abort => with_process(8, 0),
         },
-        Record::Recover => pack(9, 0, 0, 0),
+        Record::Recover => with_process(9, 0),
     }
 }

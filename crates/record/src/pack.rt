@@ -1,27 +1,26 @@
-// The bytes of a record.
+// The bytes of a record: the bit map, the kind, and the fields that are not 0. No kind uses both process and channel.
+use crate::LONGEST;
 use crate::Written;
 use crate::field::BODY;
+use crate::field::CHANNEL;
 use crate::field::KIND;
+use crate::field::PROCESS;
 ghost use mathlib.Core.Path.{_≡_};
-ghost use Prim.Native.Nat.{_≤_};
-ghost use Rattle.record.specs.Pack.{packed};
+ghost use Rattle.model.specs.Record.{writeFields};
+ghost use Rattle.record.specs.Kind.{fields};
 ghost use Rattle.record.specs.Written.{holding};
 
-// A kind, a number and a body, of which only those that are not 0 are present. The number is a process or a channel, by the weight of its bit.
-pub fn pack(kind: u8, weight: u8, number: u8, body: u32) -> Written
-    requires { ⌜ weight ≤ 4 ⌝ }
-    ensures { λ r. ⌜ r ≡ holding (packed kind weight number body) ⌝ }
+// With a channel and a body.
+pub fn with_channel(kind: u8, channel: u8, body: u32) -> Written
+    ensures { λ r. ⌜ r ≡ holding (writeFields (fields kind 0 channel body)) ⌝ }
 {
     let b0 = (body % 256) as u8;
     let b1 = (body / 256 % 256) as u8;
     let b2 = (body / 65536 % 256) as u8;
     let b3 = (body / 16777216 % 256) as u8;
-    if number == 0 {
+    if channel == 0 {
         if body == 0 {
-            return Written {
-                bytes: [KIND, kind, 0, 0, 0, 0, 0],
-                count: 2,
-            };
+            return with_process(kind, 0);
         }
         return Written {
             bytes: [KIND + BODY, kind, b0, b1, b2, b3, 0],
@@ -30,12 +29,28 @@ pub fn pack(kind: u8, weight: u8, number: u8, body: u32) -> Written
     }
     if body == 0 {
         return Written {
-            bytes: [KIND + weight, kind, number, 0, 0, 0, 0],
+            bytes: [KIND + CHANNEL, kind, channel, 0, 0, 0, 0],
             count: 3,
         };
     }
     Written {
-        bytes: [KIND + weight + BODY, kind, number, b0, b1, b2, b3],
-        count: 7,
+        bytes: [KIND + CHANNEL + BODY, kind, channel, b0, b1, b2, b3],
+        count: LONGEST,
+    }
+}
+
+// With a process.
+pub fn with_process(kind: u8, process: u8) -> Written
+    ensures { λ r. ⌜ r ≡ holding (writeFields (fields kind process 0 0)) ⌝ }
+{
+    if process == 0 {
+        return Written {
+            bytes: [KIND, kind, 0, 0, 0, 0, 0],
+            count: 2,
+        };
+    }
+    Written {
+        bytes: [KIND + PROCESS, kind, process, 0, 0, 0, 0],
+        count: 3,
     }
 }

@@ -64,7 +64,7 @@ pub fn parse(bytes: &[u8]) -> Parsed
         return malformed();
     }
     let map = bytes[0];
-    if map % 2 == 1 && map < 16 {
+    if map % 2 == 1 && map < field::MAPS {
         fields(bytes, map)
     } else {
         malformed()

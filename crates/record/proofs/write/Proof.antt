@@ -7,155 +7,85 @@ use mathlib.Core.Option.{some}
 use native.Mathlib.Omega.{arith}
 use Rattle.model.specs.declared.Record.{Record}
 use Rattle.model.specs.declared.Record.the-variants.{Call}
+use Rattle.model.specs.declared.Step.{Step}
 use Rattle.model.specs.Record.{fieldsOf, readRecord, writeRecord}
 use Rattle.record.specs.declared.Written.{Written}
-use Rattle.record.specs.Written.{holding, bytesOf, written}
-use Rattle.record.proofs.PackLaws.{as-channel, as-process, as-kind}
-use Rattle.record.proofs.RoundTrip.{written-reads}
+use Rattle.record.specs.Written.{bytesOf, written}
+use Rattle.record.proofs.ReadsBack.{written-reads}
 use Rattle.record.proofs.write.Statement.{statement}
 use Rattle.record.proofs.write.Tie as tie
 
--- both parts of the promise, of a record r that is known to be s
-promised :
-    {w : Written} {r s : Record} → r ≡ s → w ≡ written s → fieldsOf s .body < 4294967296 →
-    (w ≡ written r) × (readRecord (bytesOf w) ≡ some (r, []))
-promised {w} {r} {s} e q h = rw e (q, rw append-nil at (written-reads s [] h q))
+-- both parts of the promise, of a record r that is known to be x
+promised : {w : Written} {r x : Record} → r ≡ x → w ≡ written x → fieldsOf x .body < 4294967296
+    → (w ≡ written r) × (readRecord (bytesOf w) ≡ some (r, []))
+promised {w} {r} {x} e q h = rw e (q, rw append-nil at (written-reads x [] h q))
 
-enum-known-r : tie.Need-enum-known-r
-enum-known-r c = search needs
+-- of a step that is known to be x
+module _ (k : tie.After-known-told) where
+  abbrev given : Record
+  given = k .before .before .before .args .r
 
-enum-known-s : tie.Need-enum-known-s
-enum-known-s c = search needs
+  stepped : {w : Written} {x : Step} → k .before .r .given .0 .0 ≡ x → w ≡ written (Call x)
+      → fieldsOf (Call x) .body < 4294967296 → (w ≡ written given) × (readRecord (bytesOf w) ≡ some (given, []))
+  stepped e q h = promised (k .before .r .given .1 ∙ ap Call e) q h
 
-pack-requires : tie.Need-pack-requires
-pack-requires c κs = search needs
-
-enum-known-s-2 : tie.Need-enum-known-s-2
-enum-known-s-2 c = search needs
-
-pack-requires-2 : tie.Need-pack-requires-2
-pack-requires-2 c κs = search needs
-
-enum-told : tie.Need-enum-told
-enum-told c = search needs
-
-pack-requires-3 : tie.Need-pack-requires-3
-pack-requires-3 c κs = search needs
-
-enum-known-s-3 : tie.Need-enum-known-s-3
-enum-known-s-3 c = search needs
-
-pack-requires-4 : tie.Need-pack-requires-4
-pack-requires-4 c κs = search needs
-
-enum-known-s-4 : tie.Need-enum-known-s-4
-enum-known-s-4 c = search needs
-
-pack-requires-5 : tie.Need-pack-requires-5
-pack-requires-5 c κs = search needs
-
-enum-known-s-5 : tie.Need-enum-known-s-5
-enum-known-s-5 c = search needs
-
-pack-requires-6 : tie.Need-pack-requires-6
-pack-requires-6 c κs = search needs
-
-enum-told-2 : tie.Need-enum-told-2
-enum-told-2 c = search needs
-
-pack-requires-7 : tie.Need-pack-requires-7
-pack-requires-7 c κs = search needs
-
-enum-told-3 : tie.Need-enum-told-3
-enum-told-3 c = search needs
-
-pack-requires-8 : tie.Need-pack-requires-8
-pack-requires-8 c κs = search needs
-
-enum-told-4 : tie.Need-enum-told-4
-enum-told-4 c = search needs
-
-pack-requires-9 : tie.Need-pack-requires-9
-pack-requires-9 c κs = search needs
-
-returns : tie.Need-returns
+send : tie.Need-returns
 unfolding written writeRecord fieldsOf
-returns c =
-    let k = c .before .before in
-    promised (k .before .before .before .r .given .1 ∙ ap Call (k .s .given .1)) (c .pack .ensures ∙ ap holding (as-channel 1 _ _)) (omega arith)
+send c =
+    let s = c .before .before in
+    stepped (s .before .before) (s .s .given .1) (c .with-channel .ensures) (omega arith)
 
-returns-2 : tie.Need-returns-2
+receive : tie.Need-returns-2
 unfolding written writeRecord fieldsOf
-returns-2 c =
-    let k = c .before .before in
-    promised (k .before .before .before .r .given .1 ∙ ap Call (k .s2 .given .1)) (c .pack2 .ensures ∙ ap holding (as-channel 2 _ _)) (omega arith)
+receive c =
+    let s = c .before .before in
+    stepped (s .before .before) (s .s2 .given .1) (c .with-channel2 .ensures) (omega arith)
 
-returns-3 : tie.Need-returns-3
+begin : tie.Need-returns-3
 unfolding written writeRecord fieldsOf
-returns-3 c =
-    promised (c .before .before .before .before .r .given .1 ∙ ap Call (c .before .enum-told .given .1)) (c .pack3 .ensures ∙ ap holding (as-kind 3)) (omega arith)
+begin c =
+    let s = c .before in
+    stepped (s .before .before) (s .enum-told .given .1) (c .with-process .ensures) (omega arith)
 
-returns-4 : tie.Need-returns-4
+physical : tie.Need-returns-4
 unfolding written writeRecord fieldsOf
-returns-4 c =
-    let k = c .before .before in
-    promised (k .before .before .before .r .given .1 ∙ ap Call (k .s3 .given .1)) (c .pack4 .ensures ∙ ap holding (as-process 4 _)) (omega arith)
+physical c =
+    let s = c .before .before in
+    stepped (s .before .before) (s .s3 .given .1) (c .with-process2 .ensures) (omega arith)
 
-returns-5 : tie.Need-returns-5
+logical : tie.Need-returns-5
 unfolding written writeRecord fieldsOf
-returns-5 c =
-    let k = c .before .before in
-    promised (k .before .before .before .r .given .1 ∙ ap Call (k .s4 .given .1)) (c .pack5 .ensures ∙ ap holding (as-process 5 _)) (omega arith)
+logical c =
+    let s = c .before .before in
+    stepped (s .before .before) (s .s4 .given .1) (c .with-process3 .ensures) (omega arith)
 
-returns-6 : tie.Need-returns-6
+marker : tie.Need-returns-6
 unfolding written writeRecord fieldsOf
-returns-6 c =
-    let k = c .before .before in
-    promised (k .before .before .before .r .given .1 ∙ ap Call (k .s5 .given .1)) (c .pack6 .ensures ∙ ap holding (as-channel 6 _ _)) (omega arith)
+marker c =
+    let s = c .before .before in
+    stepped (s .before .before) (s .s5 .given .1) (c .with-channel3 .ensures) (omega arith)
 
-returns-7 : tie.Need-returns-7
+commit : tie.Need-returns-7
 unfolding written writeRecord fieldsOf
-returns-7 c =
-    promised (c .before .before .before .before .r .given .1 ∙ ap Call (c .before .enum-told2 .given .1)) (c .pack7 .ensures ∙ ap holding (as-kind 7)) (omega arith)
+commit c =
+    let s = c .before in
+    stepped (s .before .before) (s .enum-told2 .given .1) (c .with-process4 .ensures) (omega arith)
 
-returns-8 : tie.Need-returns-8
+abort : tie.Need-returns-8
 unfolding written writeRecord fieldsOf
-returns-8 c =
-    promised (c .before .before .before .before .r .given .1 ∙ ap Call (c .before .enum-told3 .given .1)) (c .pack8 .ensures ∙ ap holding (as-kind 8)) (omega arith)
+abort c =
+    let s = c .before in
+    stepped (s .before .before) (s .enum-told3 .given .1) (c .with-process5 .ensures) (omega arith)
 
-returns-9 : tie.Need-returns-9
+recover : tie.Need-returns-9
 unfolding written writeRecord fieldsOf
-returns-9 c = promised (c .before .enum-told4 .given .1) (c .pack9 .ensures ∙ ap holding (as-kind 9)) (omega arith)
+recover c = promised (c .before .enum-told4 .given .1) (c .with-process6 .ensures) (omega arith)
 
 pub write-spec : {M : Type 1} → statement M
 write-spec =
     tie.close
-    (tie.spec
-    enum-known-r
-    enum-known-s
-    pack-requires
-    enum-known-s-2
-    pack-requires-2
-    enum-told
-    pack-requires-3
-    enum-known-s-3
-    pack-requires-4
-    enum-known-s-4
-    pack-requires-5
-    enum-known-s-5
-    pack-requires-6
-    enum-told-2
-    pack-requires-7
-    enum-told-3
-    pack-requires-8
-    enum-told-4
-    pack-requires-9
-    returns
-    returns-2
-    returns-3
-    returns-4
-    returns-5
-    returns-6
-    returns-7
-    returns-8
-    returns-9)
+    (tie.spec (λ c. search needs) (λ c. search needs) (λ c κs. search needs) (λ c. search needs)
+    (λ c κs. search needs) (λ c. search needs) (λ c κs. search needs) (λ c. search needs) (λ c κs. search needs)
+    (λ c. search needs) (λ c κs. search needs) (λ c. search needs) (λ c κs. search needs) (λ c. search needs)
+    (λ c κs. search needs) (λ c. search needs) (λ c κs. search needs) (λ c. search needs) (λ c κs. search needs)
+    send receive begin physical logical marker commit abort recover)

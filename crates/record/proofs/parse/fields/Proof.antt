@@ -2,132 +2,93 @@
 use borrow.Author.Needs.{needs}
 use native.Mathlib.Omega.{arith}
 use Rattle.model.specs.Record.{andThen, stands}
-use Rattle.record.proofs.ParseLaws.{unread-parses, whole-parses, value-within, no-process, no-channel, no-body, all-fields}
+use Rattle.record.proofs.ParseLaws.{unread-parses, whole-parses, value-within}
+use Rattle.record.proofs.ParseLaws.{no-process, no-channel, no-body, all-fields}
 use Rattle.record.proofs.parse.fields.Statement.{statement}
 use Rattle.record.proofs.parse.fields.Tie as tie
 
-byte-requires : tie.Need-byte-requires
-byte-requires c κs = search needs
+-- where the process has been read, and where its value is known; so of the channel and the body
+abbrev process-read : tie.After-known-told → tie.After-byte
+process-read k = k .before .before .before
 
-enum-known-process : tie.Need-enum-known-process
-enum-known-process c = search needs
+abbrev channel-read : tie.After-known-told2 → tie.After-byte2
+channel-read k = k .before .before .before
 
-enum-told : tie.Need-enum-told
-enum-told c = search needs
+abbrev body-read : tie.After-known-told3 → tie.After-body
+body-read k = k .before .before .before
 
-malformed-requires : tie.Need-malformed-requires
-malformed-requires c κs = search needs
+abbrev process-known : tie.After-known-told2 → tie.After-known-told
+process-known k = channel-read k .before
 
-returns : tie.Need-returns
+abbrev channel-known : tie.After-known-told3 → tie.After-known-told2
+channel-known k = body-read k .before
+
+abbrev body-known : tie.After-shared-slice-known2 → tie.After-known-told3
+body-known c = c .before
+
+process-missing : tie.Need-returns
 unfolding andThen stands
-returns c =
-    let b = c .before .before .before in
-    unread-parses (rw (no-process _ _ (b .byte .ensures) (c .before .enum-told .given .1))) (c .malformed .ensures)
+process-missing c =
+    let read = c .before .before .before in
+    unread-parses (rw (no-process _ _ (read .byte .ensures) (c .before .enum-told .given .1))) (c .malformed .ensures)
 
-byte-requires-2 : tie.Need-byte-requires-2
-byte-requires-2 c κs =
-    let p = c .before in
-    value-within (p .before .before .byte .ensures) (p .process .given .1) .1
-
-enum-known-channel : tie.Need-enum-known-channel
-enum-known-channel c = search needs
-
-enum-told-2 : tie.Need-enum-told-2
-enum-told-2 c = search needs
-
-malformed-requires-2 : tie.Need-malformed-requires-2
-malformed-requires-2 c κs = search needs
-
-returns-2 : tie.Need-returns-2
+channel-missing : tie.Need-returns-2
 unfolding andThen stands
-returns-2 c =
-    let b = c .before .before .before in
-    let p = b .before .before in
-    unread-parses
-    (rw (no-channel _ _ (p .before .before .byte .ensures) (p .process .given .1) (b .byte2 .ensures) (c .before .enum-told2 .given .1)))
-    (c .malformed2 .ensures)
-
-body-requires : tie.Need-body-requires
-body-requires c κs =
-    let p = c .before in
-    value-within (p .before .before .byte2 .ensures) (p .channel .given .1) .1
-
-enum-known-body : tie.Need-enum-known-body
-enum-known-body c = search needs
-
-enum-told-3 : tie.Need-enum-told-3
-enum-told-3 c = search needs
-
-malformed-requires-3 : tie.Need-malformed-requires-3
-malformed-requires-3 c κs = search needs
-
-returns-3 : tie.Need-returns-3
-unfolding andThen stands
-returns-3 c =
-    let b = c .before .before .before in
-    let h = b .before .before in
-    let p = h .before .before .before .before in
+channel-missing c =
+    let read = c .before .before .before in
+    let p = read .before in
     unread-parses
     (rw
-    (no-body _ _ (p .before .before .byte .ensures) (p .process .given .1) (h .before .before .byte2 .ensures) (h .channel .given .1) (b .body .ensures)
-    (c .before .enum-told3 .given .1)))
+    (no-channel _ _ (process-read p .byte .ensures) (p .before .process .given .1)
+    (read .byte2 .ensures) (c .before .enum-told2 .given .1)))
+    (c .malformed2 .ensures)
+
+body-missing : tie.Need-returns-3
+unfolding andThen stands
+body-missing c =
+    let read = c .before .before .before in
+    let h = read .before in
+    let p = process-known h in
+    unread-parses
+    (rw
+    (no-body _ _ (process-read p .byte .ensures) (p .before .process .given .1)
+    (channel-read h .byte2 .ensures) (h .before .channel .given .1)
+    (read .body .ensures) (c .before .enum-told3 .given .1)))
     (c .malformed3 .ensures)
 
-shared-slice-read-record-of : tie.Need-shared-slice-read-record-of
-shared-slice-read-record-of c = search needs
+process-fits : tie.Need-cast-record-of
+process-fits c =
+    let p = process-known (channel-known (body-known c)) in
+    omega (arith, value-within (process-read p .byte .ensures) (p .before .process .given .1) .value)
 
-cast-record-of : tie.Need-cast-record-of
-cast-record-of c =
-    let p = c .before .before .before .before .before .before .before .before .before .before in
-    omega (arith, value-within (p .before .before .byte .ensures) (p .process .given .1) .0)
+channel-fits : tie.Need-cast-record-of-2
+channel-fits c =
+    let h = channel-known (body-known c) in
+    omega (arith, value-within (channel-read h .byte2 .ensures) (h .before .channel .given .1) .value)
 
-cast-record-of-2 : tie.Need-cast-record-of-2
-cast-record-of-2 c =
-    let h = c .before .before .before .before .before .before in
-    omega (arith, value-within (h .before .before .byte2 .ensures) (h .channel .given .1) .0)
-
-record-of-requires : tie.Need-record-of-requires
-record-of-requires c κs = search needs
-
-whole-requires : tie.Need-whole-requires
-whole-requires c κs = search needs
-
-returns-4 : tie.Need-returns-4
+all : tie.Need-returns-4
 unfolding andThen stands
-returns-4 c =
-    let b = c .before .before .before .before in
-    let h = b .before .before .before .before in
-    let p = h .before .before .before .before in
+all c =
+    let b = body-known (c .before .before) in
+    let h = channel-known b in
+    let p = process-known h in
     rw (
-      all-fields _ _ (p .before .before .byte .ensures) (p .process .given .1) (h .before .before .byte2 .ensures) (h .channel .given .1)
-          (b .before .before .body .ensures) (b .body2 .given .1),
+      all-fields _ _ (process-read p .byte .ensures) (p .before .process .given .1)
+          (channel-read h .byte2 .ensures) (h .before .channel .given .1)
+          (body-read b .body .ensures) (b .before .body2 .given .1),
       c .whole .ensures,
       c .before .record-of .ensures,
     )
-    (whole-parses _ _ (value-within (b .before .before .body .ensures) (b .body2 .given .1) .1))
+    (whole-parses _ _ (value-within (body-read b .body .ensures) (b .before .body2 .given .1) .next))
 
 pub fields-spec : {M : Type 1} → statement M
 fields-spec =
     tie.close
-    (tie.spec
-    byte-requires
-    enum-known-process
-    enum-told
-    malformed-requires
-    returns
-    byte-requires-2
-    enum-known-channel
-    enum-told-2
-    malformed-requires-2
-    returns-2
-    body-requires
-    enum-known-body
-    enum-told-3
-    malformed-requires-3
-    returns-3
-    shared-slice-read-record-of
-    cast-record-of
-    cast-record-of-2
-    record-of-requires
-    whole-requires
-    returns-4)
+    (tie.spec (λ c κs. search needs) (λ c. search needs) (λ c. search needs) (λ c κs. search needs) process-missing
+    (λ c κs. value-within (process-read c .byte .ensures) (c .before .process .given .1) .next) (λ c. search needs)
+    (λ c. search needs) (λ c κs. search needs) channel-missing
+    (λ c κs. value-within (channel-read c .byte2 .ensures) (c .before .channel .given .1) .next) (λ c. search needs)
+    (λ c. search needs) (λ c κs. search needs) body-missing (λ c. search needs)
+    process-fits
+    channel-fits
+    (λ c κs. search needs) (λ c κs. search needs) all)
