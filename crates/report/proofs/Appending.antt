@@ -1,4 +1,5 @@
--- Laws of appending to a buffer, also where it ends on the way: nothing, one text and then another, and the buffer's length.
+-- Laws of appending to a buffer, also where it ends on the way: nothing, one text and then another, and the buffer's
+-- length.
 use Prim.Native.Nat.{ℕ, _+_, _-_, _≤_, _<_}
 use mathlib.Core.Path.{_≡_, sym, ap, _∙_}
 use mathlib.Core.List.{List, [], _++_, append-assoc, append-nil}
@@ -6,10 +7,11 @@ use native.Mathlib.Nat.{add-assoc, add-zero}
 use native.Mathlib.Numerals.{add-one}
 use native.Mathlib.Omega.{arith}
 use lib.ListN.{length, getD, set, take, length-append}
-use lib.Seq.{paste, paste-zero, paste-suc, take-paste, drop-paste, length-paste, drop-drop, take-length, take-append-le, take-append-add}
+use lib.Seq.{paste, paste-zero, paste-suc, take-paste, drop-paste, length-paste, drop-drop}
+use lib.Seq.{take-length, take-append-le, take-append-add}
 use lib.Dec.{leb}
 use borrow.Author.Tests.{leb-true, leb-false}
-use Rattle.model.proofs.laws.Laws.{Tested, test, holds, fails}
+use Rattle.model.proofs.laws.Tests.{Tested, test, holds, fails}
 use Rattle.report.specs.Appends.{fitting, Appends}
 
 -- a position past the end, or not
@@ -24,7 +26,8 @@ position b at = go (test (leb at (length b)))
     go (holds e) = inside (leb-true at (length b) e)
     go (fails e) = past (leb-false at (length b) e)
 
-paste-length : (b : List ℕ) (at : ℕ) (xs : List ℕ) (n : ℕ) → n ≤ length b - at → n ≤ length xs → length (paste b at xs n) ≡ length b
+paste-length : (b : List ℕ) (at : ℕ) (xs : List ℕ) (n : ℕ) → n ≤ length b - at → n ≤ length xs
+    → length (paste b at xs n) ≡ length b
 paste-length b at xs n hb hx = go (position b at)
   where
     go : Position b at → length (paste b at xs n) ≡ length b
@@ -32,23 +35,23 @@ paste-length b at xs n hb hx = go (position b at)
     go (past l) = let e : n ≡ 0 = omega arith in rw e (ap length (sym (paste-zero b at xs)))
 
 -- The first n characters of the text were written, from the position on.
-pub record Copied (before : List ℕ) (at : ℕ) (text : List ℕ) (n : ℕ) (after : List ℕ) (r : ℕ) : Type 0 where
+pub record Partly (before : List ℕ) (at : ℕ) (text : List ℕ) (n : ℕ) (after : List ℕ) (r : ℕ) : Type 0 where
   pub room : n ≤ length before - at
   pub within : n ≤ length text
   pub buffer : after ≡ paste before at text n
   pub next : r ≡ at + n
 
 module _ (b : List ℕ) (at : ℕ) (text : List ℕ) where
-  pub copied-none : Copied b at text 0 b at
-  copied-none = record { room = omega arith; within = omega arith; buffer = paste-zero b at text; next = omega arith }
+  pub partly-none : Partly b at text 0 b at
+  partly-none = record { room = omega arith; within = omega arith; buffer = paste-zero b at text; next = omega arith }
 
-  module _ {n : ℕ} {m : List ℕ} {r : ℕ} (p : Copied b at text n m r) where
-    pub copied-length : length m ≡ length b
-    copied-length = rw (p .buffer) (paste-length b at text n (p .room) (p .within))
+  module _ {n : ℕ} {m : List ℕ} {r : ℕ} (p : Partly b at text n m r) where
+    pub partly-length : length m ≡ length b
+    partly-length = rw (p .buffer) (paste-length b at text n (p .room) (p .within))
 
-    pub copied-more : n < length text → r < length m → Copied b at text (n + 1) (set m r (getD text n 0)) (r + 1)
-    copied-more ht hm =
-        let inside : at + n < length b = omega (arith, copied-length) in
+    pub partly-more : n < length text → r < length m → Partly b at text (n + 1) (set m r (getD text n 0)) (r + 1)
+    partly-more ht hm =
+        let inside : at + n < length b = omega (arith, partly-length) in
         record {
           room = omega arith;
           within = omega arith;
@@ -56,16 +59,17 @@ module _ (b : List ℕ) (at : ℕ) (text : List ℕ) where
           next = omega (arith, p .next);
         }
 
-    pub copied-all : fitting b at text ≡ n → Appends b at text m r
-    copied-all e = record { buffer = rw e (p .buffer); next = rw e (p .next) }
+    pub partly-all : fitting b at text ≡ n → Appends b at text m r
+    partly-all e = record { buffer = rw e (p .buffer); next = rw e (p .next) }
 
-pub appended-length : {before : List ℕ} {at : ℕ} {text after : List ℕ} {r : ℕ} → Appends before at text after r → length after ≡ length before
+pub appended-length : {b a text : List ℕ} {at r : ℕ} → Appends b at text a r → length a ≡ length b
 unfolding fitting
-appended-length {before} {at} {text} p = rw (p .buffer) (paste-length before at text (fitting before at text) (omega arith) (omega arith))
+appended-length {b} {text = text} {at} p =
+    rw (p .buffer) (paste-length b at text (fitting b at text) (omega arith) (omega arith))
 
 pub nothing : (b : List ℕ) (at : ℕ) → Appends b at [] b at
 unfolding fitting
-nothing b at = copied-all b at [] (copied-none b at []) (omega arith)
+nothing b at = partly-all b at [] (partly-none b at []) (omega arith)
 
 -- the first n of a text and the first k of the next: the first n + k of both, if the first n are all or k is 0
 take-whole : (xs ys : List ℕ) (n k : ℕ) → n ≡ length xs → take (n + k) (xs ++ ys) ≡ take n xs ++ take k ys
@@ -99,30 +103,43 @@ module _ (b : List ℕ) (at : ℕ) (m : List ℕ) (r : ℕ) (xs ys : List ℕ) (
       rw (ek, ef) (sym (paste-zero m r ys) ∙ kept ∙ paste-zero b at (xs ++ ys))
 
 -- what fits of two texts: what fits of the first, and then of the second
-module _ (b : List ℕ) (at : ℕ) (xs ys m : List ℕ) (r : ℕ) (same : length m ≡ length b) (here : r ≡ at + fitting b at xs) where
-  fitting-both : fitting b at (xs ++ ys) ≡ fitting b at xs + fitting m r ys
+module _ (b : List ℕ) (at : ℕ) (xs ys m : List ℕ) (r : ℕ) (same : length m ≡ length b)
+    (here : r ≡ at + fitting b at xs) where
+  abbrev first : ℕ
+  first = fitting b at xs
+
+  abbrev second : ℕ
+  second = fitting m r ys
+
+  abbrev whole : ℕ
+  whole = fitting b at (xs ++ ys)
+
+  fitting-both : whole ≡ first + second
   unfolding fitting
   fitting-both = omega (arith, length-append xs ys)
 
-  take-both : take (fitting b at xs + fitting m r ys) (xs ++ ys) ≡ take (fitting b at xs) xs ++ take (fitting m r ys) ys
+  take-both : take (first + second) (xs ++ ys) ≡ take first xs ++ take second ys
   unfolding fitting
   take-both = go (test (leb (length xs) (length b - at)))
     where
       go : Tested (leb (length xs) (length b - at))
-          → take (fitting b at xs + fitting m r ys) (xs ++ ys) ≡ take (fitting b at xs) xs ++ take (fitting m r ys) ys
-      go (holds e) = take-whole xs ys (fitting b at xs) (fitting m r ys) (omega (arith, leb-true))
-      go (fails e) = take-part xs ys (fitting b at xs) (fitting m r ys) (omega arith) (omega (arith, leb-false))
+          → take (first + second) (xs ++ ys) ≡ take first xs ++ take second ys
+      go (holds e) = take-whole xs ys first second (omega (arith, leb-true))
+      go (fails e) = take-part xs ys first second (omega arith) (omega (arith, leb-false))
 
-  paste-both : m ≡ paste b at xs (fitting b at xs) → paste m r ys (fitting m r ys) ≡ paste b at (xs ++ ys) (fitting b at (xs ++ ys))
+  paste-both : m ≡ paste b at xs first → paste m r ys second ≡ paste b at (xs ++ ys) whole
   unfolding fitting
   paste-both e = go (position b at)
     where
-      go : Position b at → paste m r ys (fitting m r ys) ≡ paste b at (xs ++ ys) (fitting b at (xs ++ ys))
-      go (inside l) = pasted b at m r xs ys (fitting b at xs) (fitting m r ys) (fitting b at (xs ++ ys)) e here fitting-both l (omega arith) take-both
-      go (past l) = pasted-none b at m r xs ys (fitting b at xs) (fitting m r ys) (fitting b at (xs ++ ys)) e (omega arith) (omega arith) (omega arith)
+      go : Position b at → paste m r ys second ≡ paste b at (xs ++ ys) whole
+      go (inside l) = pasted b at m r xs ys first second whole e here fitting-both l (omega arith) take-both
+      go (past l) = pasted-none b at m r xs ys first second whole e (omega arith) (omega arith) (omega arith)
 
-pub then : {b m a : List ℕ} {at r s : ℕ} {xs ys : List ℕ} → Appends b at xs m r → Appends m r ys a s → Appends b at (xs ++ ys) a s
-then {b} {m} {a} {at} {r} {s} {xs} {ys} p q =
+-- one text, and right after it another
+infixl 20 _then_
+pub _then_ : {b m a : List ℕ} {at r s : ℕ} {xs ys : List ℕ} → Appends b at xs m r → Appends m r ys a s
+    → Appends b at (xs ++ ys) a s
+_then_ {b} {m} {a} {at} {r} {s} {xs} {ys} p q =
     let same : length m ≡ length b = appended-length p in
     record {
       buffer = q .buffer ∙ paste-both b at xs ys m r same (p .next) (p .buffer);

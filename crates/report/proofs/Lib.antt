@@ -1,5 +1,4 @@
 -- Laws that the proofs of several functions cite.
 pub mod Appending
 pub mod Texts
-pub mod Places
-pub mod Examples
+pub mod ExamplesHold

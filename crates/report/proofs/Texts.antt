@@ -5,7 +5,7 @@ use mathlib.Core.List.{List, [], _∷_, _++_, append-assoc, append-nil}
 use native.Mathlib.Omega.{arith}
 use lib.Dec.{ltb}
 use borrow.Author.Tests.{lt-ltb, le-ltb, ltb-false}
-use Rattle.model.proofs.laws.Laws.{Tested, test, holds, fails}
+use Rattle.model.proofs.laws.Tests.{Tested, test, holds, fails}
 use Rattle.report.specs.Text.{chars, digit, digits, decimal, values}
 
 -- more fuel than the number has digits changes nothing
@@ -42,11 +42,9 @@ values-append (x ∷ xs) ys = rw (values-append xs ys, append-assoc (chars " " +
 pub values-two : (a b : ℕ) (vs : List ℕ) → values (a ∷ b ∷ vs) ≡ values (a ∷ []) ++ values (b ∷ []) ++ values vs
 values-two a b vs = values-append (a ∷ b ∷ []) vs ∙ rw (values-append (a ∷ []) (b ∷ []))
 
-pub pair-text : (name : List ℕ) (a b : ℕ) (end : List ℕ) → name ++ values (a ∷ b ∷ []) ++ end ≡ name ++ values (a ∷ []) ++ (values (b ∷ []) ++ end)
+pub pair-text : (name : List ℕ) (a b : ℕ) (end : List ℕ)
+    → name ++ values (a ∷ b ∷ []) ++ end ≡ name ++ values (a ∷ []) ++ (values (b ∷ []) ++ end)
 pair-text name a b end = rw (values-append (a ∷ []) (b ∷ [])) (simp append-assoc)
-
-pub outcome-text : (said : List ℕ) (made : ℕ) (end : List ℕ) → said ++ values (made ∷ []) ++ end ≡ said ++ (values (made ∷ []) ++ end)
-outcome-text said made end = append-assoc said (values (made ∷ [])) end
 
 pub recover-text : (number name : List ℕ) (k : ℕ) (made end : List ℕ)
     → number ++ (name ++ values (k ∷ [])) ++ made ++ end ≡ number ++ name ++ values (k ∷ []) ++ (made ++ end)

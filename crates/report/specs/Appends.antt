@@ -9,7 +9,8 @@ use lib.Seq.{paste}
 unfoldable pub fitting : List ℕ → ℕ → List ℕ → ℕ
 fitting buffer at text = min (length text) (length buffer - at)
 
--- The buffer after holds what fits of the text from the position on, and is otherwise as before; r is the position after what was written.
+-- The buffer after holds what fits of the text from the position on, and is otherwise as before; r is the position
+-- after what was written.
 pub record Appends (before : List ℕ) (at : ℕ) (text after : List ℕ) (r : ℕ) : Type 0 where
   pub buffer : after ≡ paste before at text (fitting before at text)
   pub next : r ≡ at + fitting before at text

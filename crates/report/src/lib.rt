@@ -1,17 +1,19 @@
-// The text of each line that `head` and `drill` print, written into a lent buffer. Every function writes from the position at on, as far as the
-// buffer goes, and answers the position after what it wrote.
+// The text of each line that `head` and `drill` print, written into a lent buffer. Every function writes from the
+// position at on, as far as the buffer goes, and answers the position after what it wrote.
 use model::Channel;
 use model::Entry;
 use model::Outcome;
 use model::Refusal;
+use rules::channel::entry_at;
 ghost use mathlib.Core.Path.{_≡_};
 ghost use mathlib.Core.List.{[], _∷_, _++_};
-ghost use lib.ListN.{length, getD};
-ghost use Rattle.model.specs.Channel.{entryOf, entries, bodies};
+ghost use lib.ListN.{length};
+ghost use Rattle.model.specs.Channel.{entries, bodies};
 ghost use Rattle.model.specs.Outcome.{refusalNumber};
 ghost use Rattle.model.specs.Program as program;
 ghost use Rattle.report.specs.Appends.{Appends};
-ghost use Rattle.report.specs.Text.{chars, decimal, values, saidText, lineText, planRefusedText, processText, channelText, cellText};
+ghost use Rattle.report.specs.Text.{chars, decimal, values, named, saidText, outcomeText, recoverText};
+ghost use Rattle.report.specs.Text.{planRefusedText, processText, channelText, cellText};
 
 // A text.
 pub fn bytes(out: &mut [u8], at: usize, text: &[u8]) -> usize
@@ -65,7 +67,7 @@ fn numbered(out: &mut [u8], at: usize, number: u32) -> usize
 
 // A line of a name and two numbers.
 fn pair(out: &mut [u8], at: usize, name: &[u8], a: u32, b: u32) -> usize
-    ensures { λ r. ⌜ Appends (now (out .entry)) at (now (name .entry) ++ values (a ∷ b ∷ []) ++ chars "\n") (now (out .exit)) r ⌝ }
+    ensures { λ r. ⌜ Appends (now (out .entry)) at (named (now (name .entry)) (a ∷ b ∷ [])) (now (out .exit)) r ⌝ }
 {
     let named = bytes(out, at, name);
     let next = value(out, named, a);
@@ -117,7 +119,7 @@ fn said(out: &mut [u8], at: usize, outcome: Outcome) -> usize
 
 // A step's line.
 pub fn outcome_line(out: &mut [u8], at: usize, number: u32, outcome: Outcome, made: u32) -> usize
-    ensures { λ r. ⌜ Appends (now (out .entry)) at (lineText (record { number = number; said = program.outcome outcome; made = made })) (now (out .exit)) r ⌝ }
+    ensures { λ r. ⌜ Appends (now (out .entry)) at (outcomeText number outcome made) (now (out .exit)) r ⌝ }
 {
     let next = numbered(out, at, number);
     let told = said(out, next, outcome);
@@ -126,7 +128,7 @@ pub fn outcome_line(out: &mut [u8], at: usize, number: u32, outcome: Outcome, ma
 
 // A recover's line: it makes no writes.
 pub fn recover_line(out: &mut [u8], at: usize, number: u32, line: u32) -> usize
-    ensures { λ r. ⌜ Appends (now (out .entry)) at (lineText (record { number = number; said = program.line line; made = 0 })) (now (out .exit)) r ⌝ }
+    ensures { λ r. ⌜ Appends (now (out .entry)) at (recoverText number line) (now (out .exit)) r ⌝ }
 {
     let next = numbered(out, at, number);
     let named = bytes(out, next, b"line");
@@ -154,25 +156,6 @@ pub fn cell_line(out: &mut [u8], at: usize, i: u32, v: u32) -> usize
     ensures { λ r. ⌜ Appends (now (out .entry)) at (cellText i v) (now (out .exit)) r ⌝ }
 {
     pair(out, at, b"cell", i, v)
-}
-
-// What a channel's place holds. A place past the array reads as a message with body 0 and tag 0.
-fn entry_at(c: Channel, i: u8) -> Entry
-    ensures { λ r. ⌜ r ≡ entryOf (getD (c .kinds) i 0) (getD (c .bodies) i 0) ⌝ }
-{
-    let at = i as usize;
-    if at >= 8 {
-        return Entry::Message {
-            body: 0,
-            tag: false,
-        };
-    }
-    let body = c.bodies[at];
-    match c.kinds[at] {
-        0 => Entry::Message { body, tag: false },
-        1 => Entry::Message { body, tag: true },
-        _ => Entry::Marker,
-    }
 }
 
 // How many messages a channel holds.

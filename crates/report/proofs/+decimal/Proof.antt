@@ -1,13 +1,14 @@
--- `report::decimal` meets its contract: the digits before the last, if there are any, and then the last. The measure is the number.
+-- `report::decimal` meets its contract: the digits before the last, if there are any, and then the last. The measure is
+-- the number.
 use borrow.Author.Needs.{needs}
 use Prim.Native.Nat.{ℕ, _/_, _<_}
 use mathlib.Core.List.{List, []}
 use mathlib.Core.Logic.{⊎-elim}
 use borrow.Fn.Kinds.{In}
 use borrow.Fn.PlainCycle.{Measures, is, falls, and}
-use Rattle.report.specs.Text.{digit, decimal}
+use Rattle.report.specs.Text.{decimal}
 use Rattle.report.specs.Appends.{Appends}
-use Rattle.report.proofs.Appending.{nothing, then, appended-length}
+use Rattle.report.proofs.Appending.{nothing, _then_, appended-length}
 use Rattle.report.proofs.Texts.{decimal-one, decimal-more}
 use Rattle.report.proofs.decimal.Reads as reads
 use Rattle.report.proofs.decimal.Kinds as kinds
@@ -27,15 +28,18 @@ abbrev below : ℕ → In 1 kinds.ps
 below t = and 1 kinds.ps (falls 1 kinds.ps _<_ μ-decimal t) reads.Pre
 
 returns : (t : ℕ) → lts.Need-returns (below t, reads.Post, bytes.Asked, bytes.Learnt) (given t) reads.Post
-unfolding digit
 returns t c =
     let start = c .before .before .before .before .before .before .before .args in
     let joined = c .before .before .before .before .before .if1 in
     let last = c .before .before .bytes .ensures in
     let others : List ℕ → Type 0 = λ text. Appends (start .out .now) (start .at) text (joined .out) (joined .next) in
     ⊎-elim
-    (λ w. let first : others (decimal (start .n / 10)) = rw (w .5, w .6) (w .2 .ensures) in rw (decimal-more (start .n) (w .0 .taken)) (then first last))
-    (λ w. let first : others [] = rw (w .1, w .2) (nothing (start .out .now) (start .at)) in rw (decimal-one (start .n) (w .0 .left)) (then first last))
+    (λ w.
+    let first : others (decimal (start .n / 10)) = rw (w .5, w .6) (w .2 .ensures) in
+    rw (decimal-more (start .n) (w .0 .taken)) (first then last))
+    (λ w.
+    let first : others [] = rw (w .1, w .2) (nothing (start .out .now) (start .at)) in
+    rw (decimal-one (start .n) (w .0 .left)) (first then last))
     (joined .came)
 
 pub +decimal-spec : {M : Type 1} → statement M

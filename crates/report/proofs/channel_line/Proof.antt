@@ -1,13 +1,11 @@
 -- `report::channel_line` meets its contract.
 use borrow.Author.Needs.{needs}
-use Rattle.report.specs.Text.{chars, namedLine, channelText}
-use Rattle.report.proofs.Appending.{then}
+use Rattle.report.proofs.Appending.{_then_}
 use Rattle.report.proofs.Texts.{values-two}
 use Rattle.report.proofs.channel_line.Statement.{statement}
 use Rattle.report.proofs.channel_line.Tie as tie
 
 returns : tie.Need-returns
-unfolding chars namedLine channelText
 returns c =
     let end = c .before .before in
     let list = end .before .before .before .before .before in
@@ -15,19 +13,15 @@ returns c =
     let number = count .before .before .before .before .before in
     let name = number .before .before .before .before in
     rw (values-two, ← count .before .messages .ensures)
-    (then (then (then (then (name .bytes .ensures) (number .value .ensures)) (count .value2 .ensures)) (list .bodies .ensures)) (end .bytes2 .ensures))
+    (name .bytes .ensures
+    then number .value .ensures
+    then count .value2 .ensures
+    then list .bodies .ensures
+    then end .bytes2 .ensures)
 
 pub channel-line-spec : {M : Type 1} → statement M
 channel-line-spec =
     tie.close
-    (tie.spec
-    (λ c. search needs)
-    (λ c κs. search needs)
-    (λ c κs. search needs)
-    (λ c κs. search needs)
-    (λ c κs. search needs)
-    (λ c κs. search needs)
-    (λ c. search needs)
-    (λ c κs. search needs)
-    (λ c. search needs)
+    (tie.spec (λ c. search needs) (λ c κs. search needs) (λ c κs. search needs) (λ c κs. search needs)
+    (λ c κs. search needs) (λ c κs. search needs) (λ c. search needs) (λ c κs. search needs) (λ c. search needs)
     returns)

@@ -1,16 +1,16 @@
 -- `report::numbered` meets its contract.
 use borrow.Author.Needs.{needs}
-use Rattle.report.specs.Text.{chars}
-use Rattle.report.proofs.Appending.{then}
+use Rattle.report.proofs.Appending.{_then_}
 use Rattle.report.proofs.numbered.Statement.{statement}
 use Rattle.report.proofs.numbered.Tie as tie
 
 returns : tie.Need-returns
-unfolding chars
 returns c =
     let space = c .before .before in
     let number = space .before .before .before .before .before in
-    then (number .decimal .ensures) (space .bytes .ensures)
+    number .decimal .ensures then space .bytes .ensures
 
 pub numbered-spec : {M : Type 1} → statement M
-numbered-spec = tie.close (tie.spec (λ c κs. search needs) (λ c. search needs) (λ c κs. search needs) (λ c. search needs) returns)
+numbered-spec =
+    tie.close
+    (tie.spec (λ c κs. search needs) (λ c. search needs) (λ c κs. search needs) (λ c. search needs) returns)

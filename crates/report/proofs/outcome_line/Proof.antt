@@ -1,8 +1,8 @@
 -- `report::outcome_line` meets its contract.
 use borrow.Author.Needs.{needs}
 use Rattle.report.specs.Text.{lineText}
-use Rattle.report.proofs.Appending.{then}
-use Rattle.report.proofs.Texts.{outcome-text}
+use Rattle.report.proofs.Appending.{_then_}
+use mathlib.Core.List.{append-assoc}
 use Rattle.report.proofs.outcome_line.Statement.{statement}
 use Rattle.report.proofs.outcome_line.Tie as tie
 
@@ -12,7 +12,9 @@ returns c =
     let made = c .before .before in
     let told = made .before .before .before .before in
     let number = told .before .before .before .before in
-    rw outcome-text (then (then (number .numbered .ensures) (told .said .ensures)) (made .last .ensures))
+    rw append-assoc (number .numbered .ensures then told .said .ensures then made .last .ensures)
 
 pub outcome-line-spec : {M : Type 1} → statement M
-outcome-line-spec = tie.close (tie.spec (λ c κs. search needs) (λ c κs. search needs) (λ c κs. search needs) (λ c. search needs) returns)
+outcome-line-spec =
+    tie.close
+    (tie.spec (λ c κs. search needs) (λ c κs. search needs) (λ c κs. search needs) (λ c. search needs) returns)

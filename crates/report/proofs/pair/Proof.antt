@@ -1,6 +1,6 @@
 -- `report::pair` meets its contract.
 use borrow.Author.Needs.{needs}
-use Rattle.report.proofs.Appending.{then}
+use Rattle.report.proofs.Appending.{_then_}
 use Rattle.report.proofs.Texts.{pair-text}
 use Rattle.report.proofs.pair.Statement.{statement}
 use Rattle.report.proofs.pair.Tie as tie
@@ -10,7 +10,9 @@ returns c =
     let second = c .before .before in
     let first = second .before .before .before .before in
     let name = first .before .before .before .before in
-    rw pair-text (then (then (name .bytes .ensures) (first .value .ensures)) (second .last .ensures))
+    rw pair-text (name .bytes .ensures then first .value .ensures then second .last .ensures)
 
 pub pair-spec : {M : Type 1} → statement M
-pair-spec = tie.close (tie.spec (λ c κs. search needs) (λ c κs. search needs) (λ c κs. search needs) (λ c. search needs) returns)
+pair-spec =
+    tie.close
+    (tie.spec (λ c κs. search needs) (λ c κs. search needs) (λ c κs. search needs) (λ c. search needs) returns)

@@ -1,17 +1,17 @@
 -- `report::plan_refused` meets its contract.
 use borrow.Author.Needs.{needs}
-use Rattle.report.specs.Text.{chars, namedLine, planRefusedText}
-use Rattle.report.proofs.Appending.{then}
+use Rattle.report.proofs.Appending.{_then_}
 use Rattle.report.proofs.plan_refused.Statement.{statement}
 use Rattle.report.proofs.plan_refused.Tie as tie
 
 returns : tie.Need-returns
-unfolding chars namedLine planRefusedText
 returns c =
     let number = c .before .before in
     let name = number .before .before .before .before .before in
-    rw (← number .before .number .ensures) (then (name .bytes .ensures) (number .last .ensures))
+    rw (← number .before .number .ensures) (name .bytes .ensures then number .last .ensures)
 
 pub plan-refused-spec : {M : Type 1} → statement M
 plan-refused-spec =
-    tie.close (tie.spec (λ c. search needs) (λ c κs. search needs) (λ c κs. search needs) (λ c. search needs) (λ c κs. search needs) (λ c. search needs) returns)
+    tie.close
+    (tie.spec (λ c. search needs) (λ c κs. search needs) (λ c κs. search needs) (λ c. search needs)
+    (λ c κs. search needs) (λ c. search needs) returns)

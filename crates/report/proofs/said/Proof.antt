@@ -1,40 +1,40 @@
 -- `report::said` meets its contract, for each outcome.
 use borrow.Author.Needs.{needs}
 use Rattle.model.specs.Outcome.{outcomeValues}
-use Rattle.report.specs.Text.{chars, values, outcomeName, saidText}
-use Rattle.report.proofs.Appending.{then}
+use Rattle.report.specs.Text.{values, outcomeName, saidText}
+use Rattle.report.proofs.Appending.{_then_}
 use Rattle.report.proofs.said.Statement.{statement}
 use Rattle.report.proofs.said.Tie as tie
 
 done : tie.Need-returns
-unfolding chars values outcomeName outcomeValues saidText
+unfolding values outcomeName outcomeValues saidText
 done c =
     let name = c .before .before in
     rw (name .before .before .before .enum-told .given .1) (name .bytes .ensures)
 
 received : tie.Need-returns-2
-unfolding chars outcomeName outcomeValues saidText
+unfolding outcomeName outcomeValues saidText
 received c =
     let body = c .before .before in
     let name = body .before .before .before .before in
-    rw (name .before .before .before .before .outcome .given .1) (then (name .bytes2 .ensures) (body .value .ensures))
+    rw (name .before .before .before .before .outcome .given .1) (name .bytes2 .ensures then body .value .ensures)
 
 marker : tie.Need-returns-3
-unfolding chars values outcomeName outcomeValues saidText
+unfolding values outcomeName outcomeValues saidText
 marker c =
     let name = c .before .before in
     rw (name .before .before .before .enum-told2 .given .1) (name .bytes3 .ensures)
 
 refused : tie.Need-returns-4
-unfolding chars outcomeName outcomeValues saidText
+unfolding outcomeName outcomeValues saidText
 refused c =
     let number = c .before .before in
     let name = number .before .before .before .before .before in
     rw (name .before .before .before .before .outcome2 .given .1, ← number .before .number .ensures)
-    (then (name .bytes4 .ensures) (number .value2 .ensures))
+    (name .bytes4 .ensures then number .value2 .ensures)
 
 lost : tie.Need-returns-5
-unfolding chars values outcomeName outcomeValues saidText
+unfolding values outcomeName outcomeValues saidText
 lost c =
     let name = c .before .before in
     rw (name .before .before .before .enum-told3 .given .1) (name .bytes5 .ensures)
@@ -42,33 +42,8 @@ lost c =
 pub said-spec : {M : Type 1} → statement M
 said-spec =
     tie.close
-    (tie.spec
-    (λ c. search needs)
-    (λ c. search needs)
-    (λ c κs. search needs)
-    (λ c. search needs)
-    (λ c. search needs)
-    (λ c κs. search needs)
-    (λ c κs. search needs)
-    (λ c. search needs)
-    (λ c. search needs)
-    (λ c κs. search needs)
-    (λ c. search needs)
-    (λ c. search needs)
-    (λ c κs. search needs)
-    (λ c κs. search needs)
-    (λ c. search needs)
-    (λ c κs. search needs)
-    (λ c. search needs)
-    (λ c. search needs)
-    (λ c κs. search needs)
-    (λ c. search needs)
-    done
-    (λ c. search needs)
-    received
-    (λ c. search needs)
-    marker
-    (λ c. search needs)
-    refused
-    (λ c. search needs)
-    lost)
+    (tie.spec (λ c. search needs) (λ c. search needs) (λ c κs. search needs) (λ c. search needs) (λ c. search needs)
+    (λ c κs. search needs) (λ c κs. search needs) (λ c. search needs) (λ c. search needs) (λ c κs. search needs)
+    (λ c. search needs) (λ c. search needs) (λ c κs. search needs) (λ c κs. search needs) (λ c. search needs)
+    (λ c κs. search needs) (λ c. search needs) (λ c. search needs) (λ c κs. search needs) (λ c. search needs) done
+    (λ c. search needs) received (λ c. search needs) marker (λ c. search needs) refused (λ c. search needs) lost)
