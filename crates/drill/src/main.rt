@@ -1,4 +1,5 @@
-// The test program `drill`: the first 65,536 bytes of standard input, each record after its write budget, and what is printed for them.
+// The test program `drill`: the first 65,536 bytes of standard input, each record after its write budget, and what is
+// printed for them.
 use libc::STDIN_FILENO;
 use libc::STDOUT_FILENO;
 

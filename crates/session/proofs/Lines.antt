@@ -1,5 +1,5 @@
 -- Laws of lines printed one after the other, and the output as the code prints it.
-use Prim.Native.Nat.{ℕ, _+_, _≤_}
+use Prim.Native.Nat.{ℕ, _+_, _≤_, _<_}
 use mathlib.Core.Path.{_≡_, sym, ap, _∙_}
 use mathlib.Core.List.{List, [], _++_}
 use lib.ListN.{length, getD, take}
@@ -9,42 +9,58 @@ use Rattle.model.specs.declared.Topology.{Topology}
 use Rattle.model.specs.Notation.{tabulate, concatBelow}
 use Rattle.model.specs.Channel.{bodies}
 use Rattle.model.specs.Program.{Session, report}
-use Rattle.model.proofs.laws.Laws.{tabulate-length}
-use Rattle.engine.proofs.Lists.{concat-more}
+use Rattle.model.proofs.laws.Lists.{tabulate-length, tabulate-at, concat-cong, concat-more}
 use Rattle.report.specs.Appends.{fitting, Appends}
 use Rattle.report.specs.Text.{linesText, processText, channelText, outputText}
-use Rattle.report.proofs.Appending.{then, appended-length}
-use Rattle.session.proofs.Lists.{tabulate-at, concat-cong}
+use Rattle.report.proofs.Appending.{nothing, _then_, appended-length}
+use Rattle.session.specs.Output.{processesText, channelsText}
 
--- one line more
-pub line-more : {b m a : List ℕ} {at r s : ℕ} (n : ℕ) (f : ℕ → List ℕ) → Appends b at (concatBelow n f) m r → Appends m r (f n) a s
-    → Appends b at (concatBelow (n + 1) f) a s
-line-more n f p q = rw (concat-more n f) (then p q)
+-- the first i of the n texts that f makes are appended: none, one more, all
+pub record Appended (n : ℕ) (f : ℕ → List ℕ) (b : List ℕ) (at i : ℕ) (a : List ℕ) (r : ℕ) : Type 0 where
+  pub within : i ≤ n
+  pub text : Appends b at (concatBelow i f) a r
+
+module _ {n : ℕ} {f : ℕ → List ℕ} {b : List ℕ} {at : ℕ} where
+  pub none-appended : Appended n f b at 0 b at
+  unfolding concatBelow
+  none-appended = record { within = omega arith; text = nothing b at }
+
+  module _ {i : ℕ} {m : List ℕ} {r : ℕ} (p : Appended n f b at i m r) where
+    pub one-appended : {a : List ℕ} {s : ℕ} → i < n → Appends m r (f i) a s → Appended n f b at (i + 1) a s
+    one-appended l q = record { within = omega arith; text = rw (concat-more i f) (p .text then q) }
+
+    pub all-appended : n ≤ i → Appends b at (concatBelow n f) m r
+    all-appended l = let e : n ≡ i = omega (arith, p .within) in rw e (p .text)
+
+    pub kept-length : length m ≡ length b
+    kept-length = appended-length (p .text)
 
 -- the lines of the list that f makes, by their index
-pub lines-of : {A : Type 0} (n : ℕ) (f : ℕ → A) (d : A) (text : ℕ → A → List ℕ)
+lines-of : {A : Type 0} (n : ℕ) (f : ℕ → A) (d : A) (text : ℕ → A → List ℕ)
     → concatBelow (length (tabulate n f)) (λ i. text i (getD (tabulate n f) i d)) ≡ concatBelow n (λ i. text i (f i))
 lines-of n f d text =
     ap (λ (k : ℕ). concatBelow k (λ i. text i (getD (tabulate n f) i d))) (tabulate-length n f)
     ∙ concat-cong n _ _ (λ i l. ap (text i) (tabulate-at n f i d l))
 
--- each process with its word, and each channel with its messages
-abbrev pub processesText : Topology → (ℕ → ℕ) → List ℕ
-processesText T word = concatBelow (T .processes) (λ p. processText p (word p))
-
-abbrev pub channelsText : Topology → (ℕ → List ℕ) → List ℕ
-channelsText T messages = concatBelow (T .channels) (λ c. channelText c (messages c))
-
 pub report-text : (T : Topology) (x : Session)
-    → outputText (report T x) ≡ linesText (x .lines) ++ processesText T (x .state .word) ++ channelsText T (λ c. bodies (x .state .channel c))
+    → outputText (report T x)
+    ≡ linesText (x .lines)
+    ++ processesText (T .processes) (x .state .word)
+    ++ channelsText (T .channels) (x .state .channel)
 unfolding outputText report
 report-text T x =
-    rw (lines-of (T .processes) (x .state .word) 0 processText, lines-of (T .channels) (λ c. bodies (x .state .channel c)) [] channelText)
+    rw (
+      lines-of (T .processes) (x .state .word) 0 processText,
+      lines-of (T .channels) (λ c. bodies (x .state .channel c)) [] channelText,
+    )
 
 -- what was written from a buffer's start on is a part of it
-pub written-part : {b a : List ℕ} {text : List ℕ} {r : ℕ} → Appends b 0 text a r → (r ≤ length a) × (r ≡ length (take r a))
+pub record Part (a : List ℕ) (r : ℕ) : Type 0 where
+  pub within : r ≤ length a
+  pub count : r ≡ length (take r a)
+
+pub written-part : {b a text : List ℕ} {r : ℕ} → Appends b 0 text a r → Part a r
 unfolding fitting
-written-part {b} {a} {text} {r} p =
-    let same : length a ≡ length b = appended-length p in
-    let within : r ≤ length a = omega (arith, p .next) in
-    (within, sym (length-take-le r a within))
+written-part {a = a} {r = r} p =
+    let within : r ≤ length a = omega (arith, p .next, appended-length p) in
+    record { within = within; count = sym (length-take-le r a within) }

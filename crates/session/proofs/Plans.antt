@@ -1,57 +1,63 @@
--- Laws of the plan's checks: what a plan that passes the first of them has, and that these and initialize's are all of them.
-use Prim.Native.Nat.{ℕ, _+_, _*_, _≤_}
+-- Laws of the plan's checks: what a plan that passes the first of them has, and the ends of its channels as an array.
+use Prim.Native.Nat.{ℕ, _+_, _*_, _≤_, _<_}
 use mathlib.Core.Path.{_≡_, refl, sym, ap, _∙_}
 use mathlib.Core.List.{List, [], _∷_}
-use mathlib.Core.Option.{Option, none, some}
-use lib.ListN.{length, getD}
+use mathlib.Core.Option.{none}
+use lib.ListN.{length, getD, set, replicate, length-set}
 use lib.Dec.{ltb}
 use lib.Seq.{ext-getD}
 use borrow.Author.Tests.{ltb-false}
 use native.Mathlib.Omega.{arith}
 use Rattle.model.specs.declared.Refusal.the-variants.{Malformed}
-use Rattle.model.specs.Notation.{tabulate, Check, _⇒_, firstRefusal, orElse}
-use Rattle.model.specs.Topology.{sizeRefusal, topologyRefusal}
-use Rattle.model.specs.Program.{endByte, planOf, planLength, planRefusal}
-use Rattle.model.proofs.laws.Laws.{tabulate-length}
-use Rattle.model.proofs.laws.Refused.{passed, or-else-none}
-use Rattle.model.proofs.store.Store.{sizes}
-use Rattle.engine.proofs.Recovers.{below}
-use Rattle.session.specs.Plan.{shapeRefusal}
-use Rattle.session.proofs.Lists.{tabulate-at}
+use Rattle.model.specs.Notation.{tabulate, orElse}
+use Rattle.model.specs.Check.{Check, _⇒_, firstRefusal}
+use Rattle.model.specs.Topology.{channelLimit, sizeRefusal}
+use Rattle.model.specs.Program.{endByte, planLength, shapeRefusal}
+use Rattle.model.proofs.laws.Functions.{seen-replicate, filledBelow, filled-none, filled-more}
+use Rattle.model.proofs.laws.Lists.{tabulate-length, tabulate-at, or-else-none}
+use Rattle.model.proofs.laws.Passing.{passed}
+use Rattle.model.proofs.laws.TopologyLaws.{SizesFit, sizes}
 
 -- as many processes and channels as there may be, and the bytes of all of them
 pub record Whole (bytes : List ℕ) : Type 0 where
-  pub processes : getD bytes 0 0 ≤ 16
-  pub channels : getD bytes 1 0 ≤ 64
+  pub fit : SizesFit (getD bytes 0 0) (getD bytes 1 0)
   pub all : 2 + 2 * getD bytes 1 0 ≤ length bytes
-
-few : (bytes : List ℕ) → sizeRefusal (planOf bytes) ≡ none → (getD bytes 0 0 ≤ 16) × (getD bytes 1 0 ≤ 64)
-unfolding planOf
-few bytes e = let s = sizes (planOf bytes) e in (s .0, s .1)
 
 pub whole : (bytes : List ℕ) → shapeRefusal bytes ≡ none → Whole bytes
 unfolding shapeRefusal planLength
 whole bytes e =
     let short : List Check = (ltb (length bytes) 2 ⇒ Malformed) ∷ [] in
     let broken : List Check = (ltb (length bytes) (planLength bytes) ⇒ Malformed) ∷ [] in
-    let a = or-else-none (firstRefusal short) (orElse (sizeRefusal (planOf bytes)) (firstRefusal broken)) e in
-    let b = or-else-none (sizeRefusal (planOf bytes)) (firstRefusal broken) (a .1) in
-    record { processes = few bytes (b .0) .0; channels = few bytes (b .0) .1; all = ltb-false _ _ (passed broken (b .1) .0) }
+    let size = sizeRefusal (getD bytes 0 0) (getD bytes 1 0) in
+    let (_, later) = or-else-none (firstRefusal short) (orElse size (firstRefusal broken)) e in
+    let (few, long) = or-else-none size (firstRefusal broken) later in
+    record { fit = sizes _ _ few; all = ltb-false _ _ (passed broken long .0) }
 
-or-else-three : {A : Type 0} (a b c d : Option A) → orElse a (orElse b (orElse c d)) ≡ orElse (orElse a (orElse b c)) d
-unfolding orElse
-or-else-three none none c d = refl
-or-else-three none (some b) c d = refl
-or-else-three (some a) b c d = refl
+-- an array with one end of the first c channels, and 0 past them: none, one more, all
+pub record Ends (bytes : List ℕ) (at : ℕ) (r : List ℕ) (c : ℕ) : Type 0 where
+  pub within : c ≤ getD bytes 1 0
+  pub room : length r ≡ channelLimit
+  pub ends : (λ (i : ℕ). getD r i 0) ≡ filledBelow c (λ i. getD bytes (at + 2 * i) 0) 0
 
-pub checks : (bytes : List ℕ) → planRefusal bytes ≡ orElse (shapeRefusal bytes) (topologyRefusal (planOf bytes))
-unfolding planRefusal shapeRefusal
-checks bytes = or-else-three _ _ _ _
+module _ {bytes : List ℕ} {at : ℕ} where
+  pub no-ends : Ends bytes at (replicate channelLimit 0) 0
+  no-ends =
+      record { within = omega arith; room = refl; ends = seen-replicate channelLimit 0 ∙ filled-none _ 0 }
 
--- an array of one end of each channel
-pub ends-are : (bytes : List ℕ) (at : ℕ) (r : List ℕ) → length r ≡ 64
-    → (λ (i : ℕ). getD r i 0) ≡ below (getD bytes 1 0) (λ i. getD bytes (at + 2 * i) 0) 0 → r ≡ tabulate 64 (endByte bytes at)
-unfolding endByte
-ends-are bytes at r n e =
-    ext-getD 0 r (tabulate 64 (endByte bytes at)) (n ∙ sym (tabulate-length 64 (endByte bytes at)))
-    (λ i l. ap (λ (f : ℕ → ℕ). f i) e ∙ sym (tabulate-at 64 (endByte bytes at) i 0 (omega (arith, n))))
+  module _ {r : List ℕ} {c : ℕ} (p : Ends bytes at r c) where
+    pub one-end : c < getD bytes 1 0 → c < length r → Ends bytes at (set r c (getD bytes (at + 2 * c) 0)) (c + 1)
+    one-end l room =
+        record {
+          within = omega arith;
+          room = simp length-set (p .room);
+          ends = filled-more (λ x. x) r 0 _ c _ 0 room (p .ends) refl;
+        }
+
+    pub all-ends : getD bytes 1 0 ≤ c → r ≡ tabulate channelLimit (endByte bytes at)
+    unfolding endByte
+    all-ends l =
+        let ends = endByte bytes at in
+        let e : c ≡ getD bytes 1 0 = omega (arith, p .within) in
+        let all = rw e at (p .ends) in
+        ext-getD 0 r (tabulate channelLimit ends) (p .room ∙ sym (tabulate-length channelLimit ends))
+        (λ i k. ap (λ (f : ℕ → ℕ). f i) all ∙ sym (tabulate-at channelLimit ends i 0 (omega (arith, p .room))))

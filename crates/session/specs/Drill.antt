@@ -1,17 +1,16 @@
--- The whole output of the test program `drill`: as `head`, with a budget before each record, a store that starts full of rubbish, and the cells that
--- differ at the end.
+-- The whole output of the test program `drill`: as `head`, with a budget before each record, a store that starts full
+-- of rubbish, and the cells that differ at the end.
 use Prim.Native.Nat.{ℕ, _*_, _%_}
 use mathlib.Core.Bool.{cond}
 use mathlib.Core.List.{List, [], _++_}
 use lib.Dec.{eqb}
 use Rattle.model.specs.Notation.{tabulate, concatBelow}
 use Rattle.model.specs.Layout.{storeCells, cell}
-use Rattle.model.specs.Program.{given}
-use Rattle.report.specs.Text.{cellText}
-use Rattle.session.specs.Output.{Played, played}
+use Rattle.model.specs.Program.{given, Played, played}
+use Rattle.report.specs.Text.{cellText, outputText}
 
 -- "cell i = 2,654,435,761 × i modulo 2^32 before initialize"
-unfoldable pub startCell : ℕ → ℕ
+abbrev pub startCell : ℕ → ℕ
 startCell i = 2654435761 * i % 4294967296
 
 unfoldable pub startStore : List ℕ
@@ -28,4 +27,4 @@ changedText store = concatBelow storeCells (changedLine store)
 unfoldable pub drillText : List ℕ → List ℕ
 drillText input =
     let x : Played = played given startStore input in
-    x .text ++ changedText (x .store)
+    outputText (x .output) ++ changedText (x .store)

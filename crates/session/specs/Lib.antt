@@ -1,6 +1,5 @@
 -- What the programs `head` and `drill` print, whole, and what the functions behind them promise.
 pub mod Drill
 pub mod Output
-pub mod Plan
 pub mod Request
 pub mod Serving

@@ -1,4 +1,5 @@
 // The store's cells in `drill`: what they hold before initialize, and which of them differ from that at the end.
+use rules::layout::STORE_CELLS;
 ghost use mathlib.Core.Path.{_≡_};
 ghost use Prim.Native.Nat.{_<_, _≤_};
 ghost use lib.ListN.{length};
@@ -6,11 +7,9 @@ ghost use Rattle.model.specs.Layout.{storeCells};
 ghost use Rattle.report.specs.Appends.{Appends};
 ghost use Rattle.session.specs.Drill.{startCell, startStore, changedText};
 
-pub const STORE_CELLS: usize = 3265;
-
 // 2,654,435,761 × i modulo 2^32.
 fn start_cell(i: usize) -> u32
-    requires { ⌜ i < 3265 ⌝ }
+    requires { ⌜ i < storeCells ⌝ }
     ensures { λ r. ⌜ r ≡ startCell i ⌝ }
 {
     let product = 2654435761 * (i as u64);
@@ -19,7 +18,7 @@ fn start_cell(i: usize) -> u32
 
 // The store before initialize.
 pub fn fill(store: &mut [u32])
-    requires { ⌜ length (now store) ≡ 3265 ⌝ }
+    requires { ⌜ length (now store) ≡ storeCells ⌝ }
     ensures { λ r. ⌜ now (store .exit) ≡ startStore ⌝ }
 {
     let mut i: usize = 0;

@@ -1,17 +1,19 @@
 // The lines after the last request: each process with its word, and each channel with its messages.
+use model::CHANNELS;
 use model::Channel;
+use model::PROCESSES;
 ghost use Prim.Native.Nat.{_≤_};
 ghost use lib.ListN.{getD};
-ghost use Rattle.model.specs.Notation.{concatBelow};
-ghost use Rattle.model.specs.Channel.{entries, bodies};
+ghost use Rattle.model.specs.Topology.{processLimit, channelLimit};
+ghost use Rattle.model.specs.Channel.{entries};
 ghost use Rattle.model.specs.State.{emptyChannel};
 ghost use Rattle.report.specs.Appends.{Appends};
-ghost use Rattle.report.specs.Text.{processText, channelText};
+ghost use Rattle.session.specs.Output.{processesText, channelsText};
 
 // The first n processes.
-pub fn processes(n: u8, words: [u32; 16], out: &mut [u8], at: usize) -> usize
-    requires { ⌜ n ≤ 16 ⌝ }
-    ensures { λ r. ⌜ Appends (now (out .entry)) at (concatBelow n (λ p. processText p (getD words p 0))) (now (out .exit)) r ⌝ }
+pub fn processes(n: u8, words: [u32; PROCESSES], out: &mut [u8], at: usize) -> usize
+    requires { ⌜ n ≤ processLimit ⌝ }
+    ensures { λ r. ⌜ Appends (now (out .entry)) at (processesText n (λ p. getD words p 0)) (now (out .exit)) r ⌝ }
 {
     let mut next = at;
     let mut p: u8 = 0;
@@ -23,9 +25,10 @@ pub fn processes(n: u8, words: [u32; 16], out: &mut [u8], at: usize) -> usize
 }
 
 // The first n channels.
-pub fn channels(n: u8, channels: [Channel; 64], out: &mut [u8], at: usize) -> usize
-    requires { ⌜ n ≤ 64 ⌝ }
-    ensures { λ r. ⌜ Appends (now (out .entry)) at (concatBelow n (λ c. channelText c (bodies (entries (getD channels c emptyChannel))))) (now (out .exit)) r ⌝ }
+pub fn channels(n: u8, channels: [Channel; CHANNELS], out: &mut [u8], at: usize) -> usize
+    requires { ⌜ n ≤ channelLimit ⌝ }
+    ensures { λ r. ⌜ Appends (now (out .entry)) at
+        (channelsText n (λ c. entries (getD channels c emptyChannel))) (now (out .exit)) r ⌝ }
 {
     let mut next = at;
     let mut c: u8 = 0;

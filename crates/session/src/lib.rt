@@ -1,5 +1,5 @@
-// The work of the programs `head` and `drill`: one function from the input's bytes to the output's bytes each. They differ only in where a call's
-// budget comes from, in the store at first, and in what is printed of it.
+// The work of the programs `head` and `drill`: one function from the input's bytes to the output's bytes each. They
+// differ only in where a call's budget comes from, in the store at first, and in what is printed of it.
 mod cells;
 mod ending;
 mod plan;
@@ -7,8 +7,8 @@ mod play;
 mod request;
 mod serve;
 
-use crate::cells::STORE_CELLS;
-use crate::request::Current;
+use crate::request::BudgetSource;
+use rules::layout::STORE_CELLS;
 ghost use mathlib.Core.Path.{_≡_};
 ghost use lib.ListN.{length, replicate};
 ghost use Rattle.report.specs.Appends.{Appends};
@@ -21,7 +21,7 @@ const OUTPUT_BYTES: usize = 793000;
 // A buffer that holds it.
 pub fn buffer() -> [u8; OUTPUT_BYTES]
     ensures { λ r. ⌜ r ≡ replicate outputBytes 0 ⌝ }
-    ensures { λ r. ⌜ 793000 ≡ length r ⌝ }
+    ensures { λ r. ⌜ outputBytes ≡ length r ⌝ }
 {
     [0; OUTPUT_BYTES]
 }
@@ -31,15 +31,16 @@ pub fn head(input: &[u8], out: &mut [u8]) -> usize
     ensures { λ r. ⌜ Appends (now (out .entry)) 0 (headText (now (input .entry))) (now (out .exit)) r ⌝ }
 {
     let mut store = [0u32; STORE_CELLS];
-    play::play(Current::Full, input, &mut store, out)
+    play::play(BudgetSource::Full, input, &mut store, out)
 }
 
-// What `drill` prints for an input: each call with the budget given before it, on a store full of rubbish, and last the cells that differ.
+// What `drill` prints for an input: each call with the budget given before it, on a store full of rubbish, and last the
+// cells that differ.
 pub fn drill(input: &[u8], out: &mut [u8]) -> usize
     ensures { λ r. ⌜ Appends (now (out .entry)) 0 (drillText (now (input .entry))) (now (out .exit)) r ⌝ }
 {
     let mut store = [0u32; STORE_CELLS];
     cells::fill(&mut store);
-    let at = play::play(Current::Given, input, &mut store, out);
+    let at = play::play(BudgetSource::Given, input, &mut store, out);
     cells::changed(&store, out, at)
 }

@@ -1,48 +1,43 @@
-// The plan that an input begins with: its checks before the channels are looked at, its topology, and the bytes after it.
+// The plan that an input begins with: its checks before the channels are looked at, its topology, and the bytes after
+// it.
+use model::CHANNELS;
 use model::Refusal;
 use model::Topology;
+use model::Verdict;
 ghost use mathlib.Core.Path.{_≡_};
 ghost use mathlib.Core.Option.{none};
 ghost use Prim.Native.Nat.{_≤_};
 ghost use lib.ListN.{drop};
 ghost use Rattle.model.specs.Notation.{tabulate};
-ghost use Rattle.model.specs.Program.{endByte, planOf, planLength};
-ghost use Rattle.session.specs.Plan.{shapeRefusal, refusalOf};
-
-// Whether the bytes hold a plan, as far as its sizes tell.
-pub enum Shape {
-    Whole,
-    Refused(Refusal),
-}
+ghost use Rattle.model.specs.Check.{refusalOf};
+ghost use Rattle.model.specs.Topology.{channelLimit};
+ghost use Rattle.model.specs.Program.{endByte, planOf, planLength, shapeRefusal};
 
 // Under two bytes 7; 1; 2; wires broken off 7.
-pub fn check(bytes: &[u8]) -> Shape
+pub fn check(bytes: &[u8]) -> Verdict
     ensures { λ r. ⌜ refusalOf r ≡ shapeRefusal (now (bytes .entry)) ⌝ }
 {
     if bytes.len() < 2 {
-        return Shape::Refused(Refusal::Malformed);
-    }
-    let processes = bytes[0];
-    if processes < 1 || 16 < processes {
-        return Shape::Refused(Refusal::ProcessCount);
+        return Verdict::Refuse(Refusal::Malformed);
     }
     let channels = bytes[1];
-    if 64 < channels {
-        return Shape::Refused(Refusal::ChannelCount);
+    let sizes = rules::topology::sizes(bytes[0], channels);
+    if let Verdict::Refuse(_) = sizes {
+        return sizes;
     }
     if bytes.len() < 2 + 2 * (channels as usize) {
-        return Shape::Refused(Refusal::Malformed);
+        return Verdict::Refuse(Refusal::Malformed);
     }
-    Shape::Whole
+    Verdict::Pass
 }
 
 // One end of each channel: the bytes two apart from the one at first on, and 0 past the planned channels.
-fn ends(bytes: &[u8], first: usize) -> [u8; 64]
+fn ends(bytes: &[u8], first: usize) -> [u8; CHANNELS]
     requires { ⌜ (shapeRefusal (now bytes) ≡ none) × (first ≤ 3) ⌝ }
-    ensures { λ r. ⌜ r ≡ tabulate 64 (endByte (now (bytes .entry)) first) ⌝ }
+    ensures { λ r. ⌜ r ≡ tabulate channelLimit (endByte (now (bytes .entry)) first) ⌝ }
 {
     let channels = bytes[1] as usize;
-    let mut r = [0; 64];
+    let mut r = [0; CHANNELS];
     let mut c: usize = 0;
     while c < channels {
         r[c] = bytes[first + 2 * c];

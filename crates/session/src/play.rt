@@ -1,19 +1,17 @@
 // A whole session on a lent store, from the input's plan to the last line.
 use crate::ending;
 use crate::plan;
-use crate::plan::Shape;
-use crate::request::Current;
+use crate::request::BudgetSource;
 use crate::serve;
 use model::Start;
+use model::Verdict;
 ghost use mathlib.Core.Path.{_≡_};
-ghost use mathlib.Core.Option.{none};
 ghost use Prim.Native.Nat.{_≤_};
 ghost use lib.ListN.{length, take};
 ghost use Rattle.model.specs.Layout.{storeCells};
-ghost use Rattle.model.specs.Program.{inputBytes, planRefusal};
-ghost use Rattle.session.specs.Output.{playedOf, played, Plays};
-ghost use Rattle.session.specs.Plan.{shapeRefusal};
-ghost use Rattle.session.specs.Request.{currentOf};
+ghost use Rattle.model.specs.Program.{inputBytes, planRefusal, playedOf, played};
+ghost use Rattle.session.specs.Output.{MayRun, Plays};
+ghost use Rattle.session.specs.Request.{sourceOf};
 
 const INPUT_BYTES: usize = 65536;
 
@@ -28,9 +26,11 @@ fn counted(input: &[u8]) -> &[u8]
 }
 
 // With a plan as far as its sizes tell: initialize decides the rest of its checks.
-fn run(current: Current, bytes: &[u8], store: &mut [u32], out: &mut [u8]) -> usize
-    requires { ⌜ (shapeRefusal (now bytes) ≡ none) × (length (now bytes) ≤ 65536) × (storeCells ≤ length (now store)) ⌝ }
-    ensures { λ r. ⌜ Plays (playedOf (planRefusal (now (bytes .entry))) (currentOf current) (now (store .entry)) (now (bytes .entry))) (now (out .entry)) (now (out .exit)) r (now (store .exit)) ⌝ }
+fn run(source: BudgetSource, bytes: &[u8], store: &mut [u32], out: &mut [u8]) -> usize
+    requires { ⌜ MayRun (now bytes) (now store) ⌝ }
+    ensures { λ r. ⌜ Plays
+        (playedOf (planRefusal (now (bytes .entry))) (sourceOf source) (now (store .entry)) (now (bytes .entry)))
+        (now (out .entry)) (now (out .exit)) r (now (store .exit)) ⌝ }
 {
     let topology = plan::topology(bytes);
     let started = engine::initialize(topology, store);
@@ -40,7 +40,7 @@ fn run(current: Current, bytes: &[u8], store: &mut [u32], out: &mut [u8]) -> usi
     }
     let state = started.state;
     let records = plan::records(bytes);
-    let turn = serve::requests(current, topology, state, records, store, out);
+    let turn = serve::requests(source, topology, state, records, store, out);
     let last = turn.state;
     let words = last.words;
     let at = ending::processes(topology.processes, words, out, turn.at);
@@ -48,13 +48,14 @@ fn run(current: Current, bytes: &[u8], store: &mut [u32], out: &mut [u8]) -> usi
     ending::channels(topology.channels, channels, out, at)
 }
 
-pub fn play(current: Current, input: &[u8], store: &mut [u32], out: &mut [u8]) -> usize
+pub fn play(source: BudgetSource, input: &[u8], store: &mut [u32], out: &mut [u8]) -> usize
     requires { ⌜ storeCells ≤ length (now store) ⌝ }
-    ensures { λ r. ⌜ Plays (played (currentOf current) (now (store .entry)) (now (input .entry))) (now (out .entry)) (now (out .exit)) r (now (store .exit)) ⌝ }
+    ensures { λ r. ⌜ Plays (played (sourceOf source) (now (store .entry)) (now (input .entry)))
+        (now (out .entry)) (now (out .exit)) r (now (store .exit)) ⌝ }
 {
     let bytes = counted(input);
     match plan::check(bytes) {
-        Shape::Refused(r) => report::plan_refused(out, 0, r),
-        Shape::Whole => run(current, bytes, store, out),
+        Verdict::Refuse(r) => report::plan_refused(out, 0, r),
+        Verdict::Pass => run(source, bytes, store, out),
     }
 }

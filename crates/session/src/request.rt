@@ -3,10 +3,10 @@ use model::Record;
 use record::Reading;
 ghost use mathlib.Core.Path.{_≡_};
 ghost use Rattle.model.specs.Program.{readBudget, readRequest};
-ghost use Rattle.session.specs.Request.{currentOf, budgeted, requested, recordBytes, requestRest};
+ghost use Rattle.session.specs.Request.{sourceOf, budgeted, requested, afterBudget, afterRequest};
 
 // Where a call's budget comes from: full current, or 4 bytes before each record.
-pub enum Current {
+pub enum BudgetSource {
     Full,
     Given,
 }
@@ -29,10 +29,10 @@ pub enum Request {
 }
 
 // The budget that the bytes begin with, lowest byte first.
-fn budget_of(current: Current, bytes: &[u8]) -> Budget
-    ensures { λ r. ⌜ r ≡ budgeted (readBudget (currentOf current) (now (bytes .entry))) ⌝ }
+fn budget_of(source: BudgetSource, bytes: &[u8]) -> Budget
+    ensures { λ r. ⌜ r ≡ budgeted (readBudget (sourceOf source) (now (bytes .entry))) ⌝ }
 {
-    if let Current::Full = current {
+    if let BudgetSource::Full = source {
         return Budget::Lasts(FULL);
     }
     if bytes.len() < BUDGET_BYTES {
@@ -42,10 +42,10 @@ fn budget_of(current: Current, bytes: &[u8]) -> Budget
 }
 
 // The bytes after the budget.
-fn record_bytes(current: Current, bytes: &[u8]) -> &[u8]
-    ensures { λ r. ⌜ now r ≡ recordBytes current (now (bytes .entry)) ⌝ }
+fn record_bytes(source: BudgetSource, bytes: &[u8]) -> &[u8]
+    ensures { λ r. ⌜ now r ≡ afterBudget (sourceOf source) (now (bytes .entry)) ⌝ }
 {
-    if let Current::Full = current {
+    if let BudgetSource::Full = source {
         return bytes;
     }
     if bytes.len() < BUDGET_BYTES {
@@ -55,13 +55,13 @@ fn record_bytes(current: Current, bytes: &[u8]) -> &[u8]
 }
 
 // The request that the bytes begin with.
-pub fn read(current: Current, bytes: &[u8]) -> Request
-    ensures { λ r. ⌜ r ≡ requested (readRequest (currentOf current) (now (bytes .entry))) ⌝ }
+pub fn read(source: BudgetSource, bytes: &[u8]) -> Request
+    ensures { λ r. ⌜ r ≡ requested (readRequest (sourceOf source) (now (bytes .entry))) ⌝ }
 {
-    let Budget::Lasts(budget) = budget_of(current, bytes) else {
+    let Budget::Lasts(budget) = budget_of(source, bytes) else {
         return Request::Malformed;
     };
-    let content = record_bytes(current, bytes);
+    let content = record_bytes(source, bytes);
     let Reading::Read(record) = record::read(content) else {
         return Request::Malformed;
     };
@@ -69,9 +69,9 @@ pub fn read(current: Current, bytes: &[u8]) -> Request
 }
 
 // The bytes after that request.
-pub fn rest(current: Current, bytes: &[u8]) -> &[u8]
-    ensures { λ r. ⌜ now r ≡ requestRest current (now (bytes .entry)) ⌝ }
+pub fn rest(source: BudgetSource, bytes: &[u8]) -> &[u8]
+    ensures { λ r. ⌜ now r ≡ afterRequest (sourceOf source) (now (bytes .entry)) ⌝ }
 {
-    let content = record_bytes(current, bytes);
+    let content = record_bytes(source, bytes);
     record::rest(content)
 }

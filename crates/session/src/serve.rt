@@ -1,6 +1,6 @@
 // The requests of a session, each served and its line printed.
 use crate::request;
-use crate::request::Current;
+use crate::request::BudgetSource;
 use crate::request::Request;
 use model::Outcome;
 use model::Record;
@@ -8,13 +8,13 @@ use model::Refusal;
 use model::Start;
 use model::State;
 use model::Topology;
-ghost use Prim.Native.Nat.{_<_, _≤_};
+ghost use Prim.Native.Nat.{_≤_};
 ghost use lib.ListN.{length};
 ghost use Rattle.model.specs.declared.Record.the-variants.{Recover};
 ghost use Rattle.model.specs.State.{view};
-ghost use Rattle.model.specs.Program.{serve};
-ghost use Rattle.session.specs.Request.{currentOf};
-ghost use Rattle.session.specs.Serving.{Serves, Prints, sessionFrom};
+ghost use Rattle.model.specs.Program.{inputBytes, sessionFrom};
+ghost use Rattle.session.specs.Request.{sourceOf};
+ghost use Rattle.session.specs.Serving.{served, Serves, Prints};
 
 // What comes next: a line's number, where it goes, and the state that its request is served in.
 pub struct Turn {
@@ -25,8 +25,9 @@ pub struct Turn {
 
 // A recover. Where it is refused, the state is kept.
 fn recover(topology: Topology, turn: Turn, store: &[u32], out: &mut [u8]) -> Turn
-    requires { ⌜ turn .number < 4294967295 ⌝ }
-    ensures { λ r. ⌜ Serves (turn .number) (serve topology (view (turn .state)) (now (store .entry)) 0 Recover) (now (out .entry)) (turn .at) (now (out .exit)) r (now (store .entry)) ⌝ }
+    requires { ⌜ turn .number ≤ inputBytes ⌝ }
+    ensures { λ r. ⌜ Serves turn (served topology turn (now (store .entry)) 0 Recover)
+        (now (out .entry)) (now (out .exit)) r (now (store .entry)) ⌝ }
 {
     let number = turn.number;
     let started = engine::recover(topology, store);
@@ -63,8 +64,9 @@ fn serve(
     store: &mut [u32],
     out: &mut [u8],
 ) -> Turn
-    requires { ⌜ turn .number < 4294967295 ⌝ }
-    ensures { λ r. ⌜ Serves (turn .number) (serve topology (view (turn .state)) (now (store .entry)) budget «record») (now (out .entry)) (turn .at) (now (out .exit)) r (now (store .exit)) ⌝ }
+    requires { ⌜ turn .number ≤ inputBytes ⌝ }
+    ensures { λ r. ⌜ Serves turn (served topology turn (now (store .entry)) budget «record»)
+        (now (out .entry)) (now (out .exit)) r (now (store .exit)) ⌝ }
 {
     let Record::Call(step) = record else {
         return recover(topology, turn, store, out);
@@ -84,15 +86,17 @@ fn serve(
 
 // All requests that the bytes hold, in order. A 7 ends the reading after its line, the end of the bytes without one.
 pub fn requests(
-    current: Current,
+    source: BudgetSource,
     topology: Topology,
     state: State,
     bytes: &[u8],
     store: &mut [u32],
     out: &mut [u8],
 ) -> Turn
-    requires { ⌜ length (now bytes) ≤ 65536 ⌝ }
-    ensures { λ r. ⌜ Prints (sessionFrom (currentOf current) topology 1 (view state) (now (store .entry)) (now (bytes .entry))) (now (out .entry)) 0 (now (out .exit)) (r .at) (view (r .state)) (now (store .exit)) ⌝ }
+    requires { ⌜ length (now bytes) ≤ inputBytes ⌝ }
+    ensures { λ r. ⌜ Prints
+        (sessionFrom (sourceOf source) topology 1 (view state) (now (store .entry)) (now (bytes .entry)))
+        (now (out .entry)) 0 (now (out .exit)) (r .at) (view (r .state)) (now (store .exit)) ⌝ }
 {
     let mut turn = Turn {
         number: 1,
@@ -101,13 +105,13 @@ pub fn requests(
     };
     let mut left = bytes;
     while 0 < left.len() {
-        let Request::Read(record, budget) = request::read(current, left) else {
+        let Request::Read(record, budget) = request::read(source, left) else {
             let refused = Outcome::Refused(Refusal::Malformed);
             let at = report::outcome_line(out, turn.at, turn.number, refused, 0);
             turn.at = at;
             break;
         };
-        let after = request::rest(current, left);
+        let after = request::rest(source, left);
         left = after;
         let next = serve(topology, turn, record, budget, store, out);
         turn = next;

@@ -7,16 +7,7 @@ use Rattle.drill.proofs.main.Tie as tie
 pub main-spec : {M : Type 1} → statement M
 main-spec =
     tie.close
-    (tie.spec
-    (λ c κs. search needs)
-    (λ c. search needs)
-    (λ c κs. search needs)
-    (λ c κs. search needs)
-    (λ c. search needs)
-    (λ c. search needs)
-    (λ c. search needs)
-    (λ c κs. search needs)
-    (λ c. written-part (c .before .drill .ensures) .0)
-    (λ c. written-part (c .before .before .drill .ensures) .1)
-    (λ c κs. search needs)
-    (λ c. search needs))
+    (tie.spec (λ c κs. search needs) (λ c. search needs) (λ c κs. search needs) (λ c κs. search needs)
+    (λ c. search needs) (λ c. search needs) (λ c. search needs) (λ c κs. search needs)
+    (λ c. written-part (c .before .drill .ensures) .within)
+    (λ c. written-part (c .before .before .drill .ensures) .count) (λ c κs. search needs) (λ c. search needs))

@@ -7,16 +7,7 @@ use Rattle.head.proofs.main.Tie as tie
 pub main-spec : {M : Type 1} → statement M
 main-spec =
     tie.close
-    (tie.spec
-    (λ c κs. search needs)
-    (λ c. search needs)
-    (λ c κs. search needs)
-    (λ c κs. search needs)
-    (λ c. search needs)
-    (λ c. search needs)
-    (λ c. search needs)
-    (λ c κs. search needs)
-    (λ c. written-part (c .before .head .ensures) .0)
-    (λ c. written-part (c .before .before .head .ensures) .1)
-    (λ c κs. search needs)
-    (λ c. search needs))
+    (tie.spec (λ c κs. search needs) (λ c. search needs) (λ c κs. search needs) (λ c κs. search needs)
+    (λ c. search needs) (λ c. search needs) (λ c. search needs) (λ c κs. search needs)
+    (λ c. written-part (c .before .head .ensures) .within)
+    (λ c. written-part (c .before .before .head .ensures) .count) (λ c κs. search needs) (λ c. search needs))

@@ -6,9 +6,5 @@ use Rattle.session.specs.Output.{outputBytes}
 use Rattle.session.proofs.buffer.Statement.{statement}
 use Rattle.session.proofs.buffer.Tie as tie
 
-returns : tie.Need-returns
-unfolding outputBytes
-returns c = (refl, sym (length-replicate {0} {A = ℕ} 793000 0))
-
 pub buffer-spec : {M : Type 1} → statement M
-buffer-spec = tie.close (tie.spec returns)
+buffer-spec = tie.close (tie.spec (λ c. (refl, sym (length-replicate {0} {A = ℕ} outputBytes 0))))

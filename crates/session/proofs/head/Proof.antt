@@ -1,19 +1,13 @@
--- `head` meets its contract.
+-- `head` meets its contract: it plays on a store of zeros.
 use borrow.Author.Needs.{needs}
-use native.Mathlib.Omega.{arith}
-use Rattle.model.specs.Layout.{storeCells}
-use Rattle.session.specs.Request.{currentOf}
-use Rattle.session.proofs.Opening.{head-played}
+use Rattle.model.specs.Program.{head}
+use Rattle.session.specs.Output.{headText}
 use Rattle.session.proofs.head.Statement.{statement}
 use Rattle.session.proofs.head.Tie as tie
 
-play-requires : tie.Need-play-requires
-unfolding storeCells
-play-requires c κs = omega arith
-
 returns : tie.Need-returns
-unfolding currentOf storeCells
-returns c = rw (← head-played _) (c .before .before .before .play .ensures .text)
+unfolding head headText
+returns c = c .before .before .before .play .ensures .text
 
 pub head-spec : {M : Type 1} → statement M
-head-spec = tie.close (tie.spec (λ c. search needs) play-requires (λ c. search needs) returns)
+head-spec = tie.close (tie.spec (λ c. search needs) (λ c κs. search needs) (λ c. search needs) returns)

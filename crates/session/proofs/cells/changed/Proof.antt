@@ -1,64 +1,48 @@
--- `cells::changed` meets its contract. The loop's invariant: the lines of those that differ among the first i cells are written.
+-- `cells::changed` meets its contract. The loop's invariant: the lines of those that differ among the first i cells are
+-- written.
 use borrow.Author.Needs.{needs}
 use native.Mathlib.Omega.{arith}
-use Prim.Native.Nat.{_-_, _≤_}
-use mathlib.Core.Path.{_≡_, _∙_, sym}
+use Prim.Native.Nat.{_-_}
+use mathlib.Core.Path.{_∙_, sym}
 use mathlib.Core.Logic.{⊎-elim}
 use Rattle.model.specs.Layout.{storeCells}
-use Rattle.model.specs.Notation.{concatBelow}
-use Rattle.report.specs.Appends.{Appends}
-use Rattle.report.proofs.Appending.{nothing, appended-length}
+use Rattle.report.proofs.Appending.{nothing}
 use Rattle.session.specs.Drill.{changedLine, changedText}
-use Rattle.session.proofs.Lines.{line-more}
+use Rattle.session.proofs.Lines.{Appended, none-appended, one-appended, all-appended, kept-length}
 use Rattle.session.proofs.Changes.{same-cell, other-cell}
 use Rattle.session.proofs.cells.changed.Statement.{statement}
 use Rattle.session.proofs.cells.changed.Tie as tie
 
 abbrev Inv-loop : tie.InvT-loop
-Inv-loop store out₀ at next₀ i₀ out next i = (i ≤ 3265) × Appends out₀ at (concatBelow i (changedLine store)) out next
+Inv-loop store out₀ at next₀ i₀ out next i = Appended storeCells (changedLine store) out₀ at i out next
 
 abbrev μ-loop : tie.MeasureT-loop
-μ-loop store out₀ at next₀ i₀ out next i = 3265 - i
-
-loop-holds : tie.Need-loop-holds Inv-loop μ-loop
-unfolding concatBelow
-loop-holds c = (omega arith, nothing _ _)
-
-inside : tie.Need-shared-slice-read-value Inv-loop μ-loop
-unfolding storeCells
-inside c = omega (arith, c .before .before .before .before .before .pre)
+μ-loop store out₀ at next₀ i₀ out next i = storeCells - i
 
 loop-again : tie.Need-loop-again Inv-loop μ-loop
 loop-again c =
     let k = c .before in
-    let l = k .before .before .before .loop in
-    let store = k .before .before .before .before .before .before .args .store .now in
+    let inside = k .before .before in
+    let at = inside .before in
+    let store = at .before .before .before .args .store .now in
+    let begins = k .start-cell .ensures in
     ⊎-elim
-    (λ w. (omega arith, rw (w .5, w .6) (line-more _ _ (l .inv .1) (rw (other-cell store (l .i) (λ e. w .0 .taken (e ∙ sym (k .start-cell .ensures)))) (w .2 .ensures)))))
-    (λ w. (omega arith, rw (w .1, w .2) (line-more _ _ (l .inv .1) (rw (same-cell store (l .i) (w .0 .left ∙ k .start-cell .ensures)) (nothing _ _)))))
+    (λ w.
+    let line = other-cell store (at .loop .i) (λ e. w .0 .taken (e ∙ sym begins)) in
+    rw (w .5, w .6) (one-appended (at .loop .inv) (inside .loop-test .taken) (rw line (w .2 .ensures))))
+    (λ w.
+    let none = same-cell store (at .loop .i) (w .0 .left ∙ begins) in
+    rw (w .1, w .2) (one-appended (at .loop .inv) (inside .loop-test .taken) (rw none (nothing _ _))))
     (c .if1 .came)
 
 returns : tie.Need-returns Inv-loop μ-loop
-unfolding storeCells changedText
-returns c =
-    let l = c .before .loop in
-    let e : l .i ≡ 3265 = omega arith in
-    rw e at (l .inv .1)
+unfolding changedText
+returns c = all-appended (c .before .loop .inv) (c .loop-test .left)
 
 pub changed-spec : {M : Type 1} → statement M
 changed-spec =
     tie.close
-    (tie.spec
-    Inv-loop
-    μ-loop
-    loop-holds
-    (λ c. search needs)
-    inside
-    (λ c κs. search needs)
-    (λ c. search needs)
-    (λ c κs. search needs)
-    (λ c. search needs)
-    (λ c. search needs)
-    loop-again
-    (λ c. appended-length (c .before .loop .inv .1))
-    returns)
+    (tie.spec Inv-loop μ-loop (λ c. none-appended) (λ c. search needs)
+    (λ c. omega (arith, c .before .before .before .before .before .pre)) (λ c κs. search needs) (λ c. search needs)
+    (λ c κs. search needs) (λ c. search needs) (λ c. search needs) loop-again
+    (λ c. kept-length (c .before .loop .inv)) returns)

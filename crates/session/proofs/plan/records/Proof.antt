@@ -21,12 +21,6 @@ returns c =
 pub records-spec : {M : Type 1} → statement M
 records-spec =
     tie.close
-    (tie.spec
-    (λ c. omega (arith, known (c .before)))
-    (λ c. omega (arith, known (c .before)))
-    (λ c. omega (arith, known (c .before)))
-    (λ c. omega (arith, known (c .before)))
-    (λ c. omega (arith, known (c .before)))
-    (λ c. omega (arith, known (c .before)))
-    (λ c. search needs)
-    returns)
+    (tie.spec (λ c. omega (arith, known (c .before))) (λ c. omega (arith, known (c .before)))
+    (λ c. omega (arith, known (c .before))) (λ c. omega (arith, known (c .before)))
+    (λ c. omega (arith, known (c .before))) (λ c. omega (arith, known (c .before))) (λ c. search needs) returns)

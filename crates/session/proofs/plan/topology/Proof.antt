@@ -18,9 +18,6 @@ returns c =
 pub topology-spec : {M : Type 1} → statement M
 topology-spec =
     tie.close
-    (tie.spec
-    (λ c κs. search needs)
-    (λ c κs. search needs)
+    (tie.spec (λ c κs. search needs) (λ c κs. search needs)
     (λ c. omega (arith, known (c .before .before .before .before)))
-    (λ c. omega (arith, known (c .before .before .before .before .before)))
-    returns)
+    (λ c. omega (arith, known (c .before .before .before .before .before))) returns)

@@ -1,67 +1,75 @@
 -- `play::run` meets its contract: initialize refuses the plan, or the session runs to its end.
 use borrow.Author.Needs.{needs}
 use native.Mathlib.Omega.{arith}
-use Prim.Native.Nat.{_≤_}
 use lib.ListN.{length-drop}
 use Rattle.model.specs.State.{view}
+use Rattle.model.proofs.laws.TopologyLaws.{SizesFit}
 use Rattle.session.proofs.Opening.{plan-sizes, opens, refuses, plays-refused, plays-through}
 use Rattle.session.proofs.play.run.Statement.{statement}
 use Rattle.session.proofs.play.run.Tie as tie
 
+-- the places: the plan is read, initialize has answered, it is ready, the requests are served, the processes printed
+abbrev planned : tie.After-initialize → tie.After-topology
+planned i = i .before .before
+
 abbrev start : tie.After-initialize → tie.Start
-start i = i .before .before .before .before .before .before
+start i = planned i .before .before .before .before
 
--- the requests were served
-abbrev initialized : tie.After-requests → tie.After-initialize
-initialized q = q .before .before .before .before .before .before .before .before .before
+abbrev initialized : tie.After-enum-told → tie.After-initialize
+initialized t = t .before .before .before .before
 
-sizes : (i : tie.After-initialize) → let T = i .before .before .topology .result in (T .processes ≤ 16) × (T .channels ≤ 64)
-sizes i = plan-sizes _ (start i .pre .0) (i .before .before .topology .ensures)
+abbrev ready : tie.After-records → tie.After-enum-told
+ready r = r .before .before
+
+abbrev recorded : tie.After-requests → tie.After-records
+recorded q = q .before .before .before
+
+abbrev served : tie.After-processes-arg → tie.After-requests
+served p = p .before .before .before .before .before .before .before
+
+abbrev printed : tie.After-channels-arg → tie.After-processes
+printed c = c .before .before .before .before
+
+sizes : (q : tie.After-requests)
+    → let T = planned (initialized (ready (recorded q))) .topology .result in SizesFit (T .processes) (T .channels)
+sizes q =
+    let i = initialized (ready (recorded q)) in
+    plan-sizes (start i .pre) (planned i .topology .ensures)
 
 refused : tie.Need-returns
 refused c =
-    let k = c .before .before in
-    let r = k .before .before .before in
-    let i = r .before .before .before .before in
-    let pre = start i .pre in
-    let both = refuses _ _ (pre .0) (pre .2) (i .before .before .topology .ensures) (i .initialize .ensures) (r .start .given .1) in
-    plays-refused _ _ _ (both .0) (both .1) (k .plan-refused .ensures)
+    let line = c .before .before in
+    let told = line .before .before .before in
+    let i = told .before .before .before .before in
+    let (refusal, kept) =
+    refuses (start i .pre) (planned i .topology .ensures) (i .initialize .ensures) (told .start .given .1) in
+    plays-refused _ _ _ refusal kept (line .plan-refused .ensures)
 
 ran : tie.Need-returns-2
 unfolding view
 ran c =
-    let ch = c .before .before in
-    let pr = ch .before .before .before .before .before in
-    let q = pr .before .before .before .before .before .before .before .before in
-    let rec = q .before .before .before in
-    let t = rec .before .before in
-    let i = initialized q in
-    let pre = start i .pre in
-    let plan = i .before .before .topology .ensures in
-    let begun = i .initialize .ensures in
-    plays-through _ _ _ plan (begun .state) (begun .store) (rec .records .ensures) (opens _ _ (pre .0) (pre .2) plan begun (t .enum-told .given .1))
-    (q .requests .ensures)
-    (pr .processes .ensures)
-    (ch .channels2 .ensures)
+    let last = c .before .before in
+    let p = printed (last .before) in
+    let q = served (p .before) in
+    let r = recorded q in
+    let t = ready r in
+    let i = initialized t in
+    let plan = planned i .topology .ensures in
+    let started = i .initialize .ensures in
+    plays-through _ _ _ plan (started .state) (started .store) (r .records .ensures)
+    (opens (start i .pre) plan started (t .enum-told .given .1))
+    (q .requests .ensures) (p .processes .ensures) (last .channels2 .ensures)
+
+few : tie.Need-requests-requires
+few c κs =
+    let r = c .before .before in
+    let s = start (initialized (ready r)) in
+    rw (r .records .ensures, length-drop) (omega (arith, s .pre .taken))
 
 pub run-spec : {M : Type 1} → statement M
 run-spec =
     tie.close
-    (tie.spec
-    (λ c κs. search needs)
-    (λ c κs. search needs)
-    (λ c. search needs)
-    (λ c κs. search needs)
-    (λ c. search needs)
-    (λ c. search needs)
-    refused
-    (λ c. search needs)
-    (λ c κs. search needs)
-    (λ c κs.
-    let s = start (c .before .before .before .before .before .before .before .before) in
-    rw (c .before .before .records .ensures, length-drop) (omega (arith, s .pre .1)))
-    (λ c κs. sizes (initialized (c .before .before .before .before .before .before .before)) .0)
-    (λ c κs. sizes (initialized (c .before .before .before .before .before .before .before .before .before .before .before .before)) .1)
-    (λ c. search needs)
-    (λ c. search needs)
-    ran)
+    (tie.spec (λ c κs. search needs) (λ c κs. search needs) (λ c. search needs) (λ c κs. search needs)
+    (λ c. search needs) (λ c. search needs) refused (λ c. search needs) (λ c κs. search needs) few
+    (λ c κs. sizes (served c) .processes) (λ c κs. sizes (served (printed c .before)) .channels) (λ c. search needs)
+    (λ c. search needs) ran)
