@@ -1,21 +1,22 @@
 use borrow.Author.Needs.{needs}
 use Prim.Native.Nat.{_-_}
 use lib.ListN.{length}
-use Rattle.cases.proofs.text.find.Statement.{statement}
-use Rattle.cases.proofs.text.find.Tie as tie
+use Rattle.cases.proofs.untouched.Statement.{statement}
+use Rattle.cases.proofs.untouched.Tie as tie
 
 abbrev Inv-loop : tie.InvT-loop
-Inv-loop text from byte i₀ i = Unit
+Inv-loop store i₀ i = Unit
 
 abbrev μ-loop : tie.MeasureT-loop
-μ-loop text from byte i₀ i = length text - i
+μ-loop store i₀ i = length store - i
 
-pub find-spec : {M : Type 1} → statement M
-find-spec =
+pub untouched-spec : {M : Type 1} → statement M
+untouched-spec =
     tie.close
     (tie.spec
     Inv-loop
     μ-loop
+    (λ c. search needs)
     (λ c. search needs)
     (λ c. search needs)
     (λ c. search needs)
