@@ -1,4 +1,4 @@
-//! The types that both Rust programs share: those of crates/model, field by field, and laid out as Rattle lays them out.
+//! The types that both Rust programs share: those of crates/model, field by field, laid out as Rattle lays them out.
 
 pub const PROCESSES: usize = 16;
 pub const CHANNELS: usize = 64;
