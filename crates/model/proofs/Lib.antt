@@ -6,5 +6,6 @@ pub mod InOrder
 pub mod CasesHold
 pub mod Soundness
 pub mod Demand3
+pub mod Touched
 pub mod Reached
 pub mod Trace

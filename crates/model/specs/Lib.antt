@@ -19,5 +19,6 @@ pub mod Program
 pub mod History
 pub mod Run
 pub mod Claim
+pub mod Extent
 pub mod Order
 pub mod Cases
