@@ -7,5 +7,6 @@ pub mod CasesHold
 pub mod Soundness
 pub mod Demand3
 pub mod Touched
+pub mod Looked
 pub mod Reached
 pub mod Trace
