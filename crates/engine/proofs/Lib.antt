@@ -10,3 +10,4 @@ pub mod Clearing
 pub mod Receptions
 pub mod ReceiveMeets
 pub mod Recovering
+pub mod CodeRuns

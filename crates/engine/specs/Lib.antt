@@ -3,3 +3,4 @@ pub mod Spent
 pub mod Answers
 pub mod Starts
 pub mod Receiving
+pub mod Runs
