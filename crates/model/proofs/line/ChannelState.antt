@@ -56,7 +56,7 @@ all-new {t} (message x n) = ap (λ (l : List Entry). Message x (not t) ∷ l) (a
 
 -- The invariant of one channel. a, r: sender and receiver have their logical checkpoint; s: the marker was sent; k: the
 -- channel is closed; es: its entries; log: its channel log; out, in: the bodies sent and received on it before the two
--- ends' checkpoints.
+-- ends' logical checkpoints.
 pub record Balanced (t a r s k : Bool) (es : List Entry) (log out in′ : List ℕ) : Type 0 where
   pub before : List ℕ
   pub marked : Bool
@@ -109,10 +109,10 @@ no-messages {X} {e} {es} t bs z q = let p : e ∷ es ≡ [] = q ∙ ap (messages
     cons-is-no-nil p = let z : _≡_ {A = ℕ} 0 1 = cc in omega arith
 
 module _ {t a r s k : Bool} {es : List Entry} {log out in′ : List ℕ} where
-  -- what counts of the checkpoints: a sender without one, a receiver with one
-  pub more-checkpoints : (a′ r′ : Bool) → (a′ ≡ false → a ≡ false) → (r′ ≡ false → r ≡ false)
+  -- what counts of the logical checkpoints: a sender without one, a receiver with one
+  pub more-logical : (a′ r′ : Bool) → (a′ ≡ false → a ≡ false) → (r′ ≡ false → r ≡ false)
       → Balanced t a r s k es log out in′ → Balanced t a′ r′ s k es log out in′
-  more-checkpoints a′ r′ fa fr l =
+  more-logical a′ r′ fa fr l =
       record {
         before = l .before;
         marked = l .marked;
@@ -128,7 +128,7 @@ module _ {t a r s k : Bool} {es : List Entry} {log out in′ : List ℕ} where
       still true e h = e
       still false e h = true-is-not-false h (fr e)
 
-  -- a message sent before the sender's checkpoint
+  -- a message sent before the sender's logical checkpoint
   pub send-old : (b : ℕ) → a ≡ false → Balanced t a r s k es log out in′
       → Balanced t a r s k (es ++ (Message b t ∷ [])) log (out ++ (b ∷ [])) in′
   send-old b e l =
@@ -214,7 +214,7 @@ module _ {t a r s k u : Bool} {b : ℕ} {es : List Entry} {log out in′ : List 
       let p : b ∷ rest ≡ [] = sym is ∙ l .shut h .0 in
       let z : _≡_ {A = ℕ} 0 1 = cc in omega arith
 
-  -- an old message: it is in the receiver's part before the checkpoint, or in the channel log
+  -- an old message: it is in the receiver's part before the logical checkpoint, or in the channel log
   receive-old : (log′ in″ : List ℕ) → u ≡ t → (r ≡ false → log′ ≡ [])
       → ((rest : List ℕ) → in′ ++ (log ++ (b ∷ rest)) ≡ in″ ++ (log′ ++ rest)) → Balanced t a r s k es log′ out in″
   unfolding messages
@@ -245,7 +245,7 @@ module _ {t a r s k u : Bool} {b : ℕ} {es : List Entry} {log out in′ : List 
       receive-old (log ++ (b ∷ [])) in′ e (λ h. true-is-not-false z h)
       (λ rest. ap (λ (x : List ℕ). in′ ++ x) (sym (append-assoc log (b ∷ []) rest)))
 
-  -- a new message: the receiver has its checkpoint by then
+  -- a new message: the receiver has its logical checkpoint by then
   pub receive-new : u ≡ not t → Balanced t a true s k es log out in′
   receive-new e =
       let (nothing, rest) = new-first (l .shape) e in

@@ -13,13 +13,13 @@ use Rattle.model.specs.History.{History, sent, received, markNow}
 use Rattle.model.proofs.laws.Tests.{true-is-not-false}
 use Rattle.model.proofs.laws.Functions.{Indices, same, other, indices, by-index, upd-same, upd-at, upd-other}
 use Rattle.model.proofs.line.Values.{Channel, processAt, channelAt}
-use Rattle.model.proofs.line.ChannelState.{more-checkpoints}
+use Rattle.model.proofs.line.ChannelState.{more-logical}
 use Rattle.model.proofs.line.Invariant.{ProcessHolds, ChannelHolds, Inv}
 use Rattle.model.proofs.line.Books.{no-mark, book-marked, book-marked-other, seen-marked-in}
-use Rattle.model.proofs.line.ProcessState.{process-checkpointed}
+use Rattle.model.proofs.line.ProcessState.{process-logical}
 use Rattle.model.proofs.line.Phases.{process-in, channel-in}
 
--- one more is checkpointed, so what is not was not before
+-- one more has its logical checkpoint, so what has not had not before
 fewer : (f : ℕ → Bool) (p q : ℕ) → upd f p true q ≡ false → f q ≡ false
 fewer f p q e = go (indices p q)
   where
@@ -51,7 +51,7 @@ channel-flagged a r fa fr i =
       now = i .now;
       finished = i .finished;
       fits = i .fits;
-      round = record { balanced = more-checkpoints a r fa fr (i .round .balanced); counted = i .round .counted };
+      round = record { balanced = more-logical a r fa fr (i .round .balanced); counted = i .round .counted };
     }
 
 module _ (s : GlobalState) (st : List ℕ) (h : History) (p : ℕ) (l : p < s .topology .processes)
@@ -67,7 +67,7 @@ module _ (s : GlobalState) (st : List ℕ) (h : History) (p : ℕ) (l : p < s .t
       → ProcessHolds (i .tag) Logical q (processAt (logicalCheckpoint p s) st (markNow p h) q)) p
       (λ k.
       rw (upd-same (s .tag) p (not (s .tag p)), upd-same (s .progress .logical) p true, book-marked h p)
-      (process-checkpointed unmarked (process-in i phase p k)))
+      (process-logical unmarked (process-in i phase p k)))
       (λ q n k.
       rw (
         upd-other (s .tag) p q (not (s .tag p)) n,

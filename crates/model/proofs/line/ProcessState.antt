@@ -46,8 +46,8 @@ abbrev pub loggedSlot : ℕ → Process → Slot
 loggedSlot b v = record { word = enter (v .pending .word) b; count = v .count + 1 }
 
 -- after the logical checkpoint: the mark is the end of the history
-abbrev pub checkpointed : Process → Process
-checkpointed v =
+abbrev pub atLogical : Process → Process
+atLogical v =
     record {
       word = v .word;
       tag = not (v .tag);
@@ -167,9 +167,9 @@ module _ {t : Bool} {p : ℕ} {v : Process} where
         counted = i .round .counted;
       })
 
-  pub process-checkpointed : v .logical ≡ false → ProcessHolds t Logical p v → ProcessHolds t Logical p (checkpointed v)
+  pub process-logical : v .logical ≡ false → ProcessHolds t Logical p v → ProcessHolds t Logical p (atLogical v)
   unfolding tagged before
-  process-checkpointed e i =
+  process-logical e i =
       record {
         now = i .now;
         within = i .within;

@@ -124,23 +124,23 @@ module _ (T : Topology) (st : List ℕ) (sized : Sized T st) where
 
   -- a physical checkpoint: the word is there, and the others' and all logs are as before
   module _ (n p word : ℕ) (l : p < T .processes) where
-    abbrev checkpointed : List ℕ
-    checkpointed = writeAll st (physicalWrites n p word)
+    abbrev saved : List ℕ
+    saved = writeAll st (physicalWrites n p word)
 
-    pub physical-written : cell checkpointed (physicalCell n p) ≡ word
+    pub physical-written : cell saved (physicalCell n p) ≡ word
     unfolding physicalWrites writeAll
     physical-written =
         written st (record { cell = physicalCell n p; value = word })
         (in-store sized n (physicalCell n p) (physical-within sized n p l))
 
-    pub physical-log : (log : Log) → Planned T log → (k : ℕ) → k ≤ places log → SameLog n log k st checkpointed
+    pub physical-log : (log : Log) → Planned T log → (k : ℕ) → k ≤ places log → SameLog n log k st saved
     unfolding physicalWrites
     physical-log log planned k fits =
-        kept-log st checkpointed n log k fits
+        kept-log st saved n log k fits
         (λ a r. kept st (physicalWrites n p word) a (λ e. no-log sized n p log l planned (rw (← e) (r .own)), tt))
 
     pub physical-other : (q : ℕ) → q < T .processes → (p ≡ q → ⊥) → (k : ℕ) → k ≤ places (messageLog q)
-        → SameProcess n q k st checkpointed
+        → SameProcess n q k st saved
     unfolding physicalWrites
     physical-other q m o k fits =
         record {
