@@ -18,6 +18,7 @@ pub mod ReceiveHistory
 pub mod Delivered
 pub mod LogFrames
 pub mod MessageKept
+pub mod MarkerReceived
 pub mod ReceiveKept
 pub mod StepKept
 pub mod RecoverKept

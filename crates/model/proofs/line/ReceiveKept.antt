@@ -12,8 +12,8 @@ use Rattle.model.specs.declared.Phase.the-variants.{Idle, Physical, Logi
 use Rattle.model.specs.declared.Entry.{Entry}
 use Rattle.model.specs.declared.Entry.the-variants.{Message, Marker}
 use Rattle.model.specs.declared.Step.the-variants.{Receive}
-use Rattle.model.specs.Topology.{sender, receiver}
-use Rattle.model.specs.Channel.{bodies, markerless, messages, noEntry}
+use Rattle.model.specs.Topology.{receiver}
+use Rattle.model.specs.Channel.{noEntry}
 use Rattle.model.specs.State.{GlobalState, raisedAll}
 use Rattle.model.specs.Change.{setEntries, withChannel, enterBody, withWord, withCounts, logicalCheckpoint}
 use Rattle.model.specs.Change.{withTag}
@@ -26,13 +26,12 @@ use Rattle.model.specs.History.{History, markNow, markUnmarked, addEvent
 use Rattle.model.specs.History.{onMessage}
 use Rattle.model.proofs.laws.Tests.{true-is-not-false, or-left, Tested, holds, fails, test, beq-same}
 use Rattle.model.proofs.laws.Tests.{beq-other}
-use Rattle.model.proofs.laws.Functions.{by-index, upd-same, upd-other}
-use Rattle.model.proofs.laws.ChannelLaws.{messages-markerless}
+use Rattle.model.proofs.laws.Functions.{upd-same}
 use Rattle.model.proofs.laws.SoundLaws.{Fits}
 use Rattle.model.proofs.laws.HistoryLaws.{receivedOn}
-use Rattle.model.proofs.line.ChannelState.{receive-marker, new-sender}
-use Rattle.model.proofs.line.Values.{Channel, processAt, channelAt, bookOf, seenOf}
-use Rattle.model.proofs.line.Invariant.{tagged, ChannelHolds, EndsPlanned, Inv, Keeps}
+use Rattle.model.proofs.line.ChannelState.{new-sender}
+use Rattle.model.proofs.line.Values.{processAt, channelAt, bookOf, seenOf}
+use Rattle.model.proofs.line.Invariant.{tagged, EndsPlanned, Inv, Keeps}
 use Rattle.model.proofs.line.Books.{no-mark}
 use Rattle.model.proofs.line.ProcessState.{received-idle, received-waiting, received-saved, received-before}
 use Rattle.model.proofs.line.ProcessState.{received-after}
@@ -44,68 +43,15 @@ use Rattle.model.proofs.line.ReceiveHistory.{new-is-late}
 use Rattle.model.proofs.line.LogicalKept.{logical-kept, logical-tag}
 use Rattle.model.proofs.line.MessageKept.{receiveBy, Both, unlogged, message-unlogged, message-logged}
 use Rattle.model.proofs.line.MessageKept.{channel-logged}
+use Rattle.model.proofs.line.MarkerReceived.{no-marker, marker-received}
 
--- plain entries have no marker
-no-marker : {X : Type 0} (t : Bool) (bs : List ℕ) (es : List Entry) → Marker ∷ es ≡ messages t bs → X
-unfolding markerless
-no-marker t bs es e = true-is-not-false (messages-markerless t bs) (ap markerless (sym e))
-
--- a channel with its marker received
-abbrev shut : List Entry → Channel → Channel
-shut es v =
-    record {
-      entries = es;
-      sent = v .sent;
-      closed = true;
-      sender = v .sender;
-      receiver = v .receiver;
-      count = v .count;
-      out = v .out;
-      taken = v .taken;
-      finished = v .finished;
-      pending = v .pending;
-    }
-
-channel-shut : {t : Bool} {v : Channel} (es : List Entry) → v .entries ≡ Marker ∷ es → v .receiver ≡ true
-    → ChannelHolds t Logical v → ChannelHolds t Logical (shut es v)
-unfolding bodies
-channel-shut {v = v} es first r i =
-    record {
-      now = rw first at (i .now);
-      finished = i .finished;
-      fits = i .fits;
-      round =
-          record { balanced = rw r (receive-marker (rw first at (i .round .balanced))); counted = i .round .counted };
-    }
-
--- the marker, with a receiver that has its logical checkpoint
-marker-taken : (s : GlobalState) (st : List ℕ) (h : History) (i : Inv s st h) (c : ℕ) (es : List Entry)
-    → s .round .phase ≡ Logical → s .progress .logical (receiver (s .topology) c) ≡ true → s .channel c ≡ Marker ∷ es
-    → Inv (setEntries c es (close c s)) st h
-unfolding setEntries withChannel close withProgress withClosed
-marker-taken s st h i c es phase flag first =
-    record {
-      sized = i .sized;
-      stored = i .stored;
-      tag = i .tag;
-      processes = i .processes;
-      channels =
-          by-index (λ d. d < s .topology .channels
-          → ChannelHolds (i .tag) (s .round .phase) (channelAt (setEntries c es (close c s)) st h d)) c
-          (λ k.
-          rw (phase, upd-same (s .channel) c es, upd-same (s .progress .closed) c true)
-          (channel-shut es first flag (channel-in i phase c k)))
-          (λ d o k.
-          rw (upd-other (s .channel) c d es o, upd-other (s .progress .closed) c d true o) (i .channels d k));
-    }
-
--- a new message, with such a receiver
-new-taken : (s : GlobalState) (st : List ℕ) (h : History) (i : Inv s st h) (ends : EndsPlanned (s .topology)) (c b : ℕ)
+-- a new message, with a receiver that has its logical checkpoint
+new-received : (s : GlobalState) (st : List ℕ) (h : History) (i : Inv s st h) (ends : EndsPlanned (s .topology)) (c b : ℕ)
     (u : Bool) (es : List Entry) (l : c < s .topology .channels) → s .round .phase ≡ Logical
     → s .progress .logical (receiver (s .topology) c) ≡ true → u ≡ not (i .tag) → s .channel c ≡ Message b u ∷ es
     → Inv (enterBody (receiver (s .topology) c) (Message b u) (setEntries c es (withCounts (s .counts) s))) st
     (addEvent (receiver (s .topology) c) (receivedOn c b) h)
-new-taken s st h i ends c b u es l phase flag new first =
+new-received s st h i ends c b u es l phase flag new first =
     let r : ℕ = receiver (s .topology) c in
     let process = process-in i phase r (ends c l .1) in
     unlogged s st h i ends c b u es l (rw phase (received-after c b flag process))
@@ -247,7 +193,7 @@ module _ (s : GlobalState) (st : List ℕ) (h : History) (c : ℕ) (l : c < s .t
             record {
               lasts =
                   rw told
-                  (new-taken saved st (markNow r h) (logical-kept s st h r rl phase e i) ends c b u es l phase
+                  (new-received saved st (markNow r h) (logical-kept s st h r rl phase e i) ends c b u es l phase
                   (upd-same (s .progress .logical) r true)
                   (new ∙ ap not (sym (logical-tag s st h r rl phase e i))) first);
               lost = λ x k. absurd (omega arith);
@@ -273,7 +219,7 @@ module _ (s : GlobalState) (st : List ℕ) (h : History) (c : ℕ) (l : c < s .t
         record {
           lasts =
               rw (stays-marked (s .topology) c 0 h (process-in i phase r rl .round .mark) e)
-              (marker-taken s st h i c es phase e first);
+              (marker-received s st h i c es phase e first);
           lost = λ x k. absurd (omega arith);
         })
     marker (fails e) =
@@ -282,7 +228,7 @@ module _ (s : GlobalState) (st : List ℕ) (h : History) (c : ℕ) (l : c < s .t
         record {
           lasts =
               rw (no-mark (process-in i phase r rl .round .mark) e)
-              (marker-taken (logicalCheckpoint r s) st (markNow r h) (logical-kept s st h r rl phase e i) c es phase
+              (marker-received (logicalCheckpoint r s) st (markNow r h) (logical-kept s st h r rl phase e i) c es phase
               (upd-same (s .progress .logical) r true) first);
           lost = λ x k. absurd (omega arith);
         })
