@@ -10,6 +10,7 @@ use model::Start;
 use model::State;
 use model::Step;
 use model::Topology;
+use rules::layout::STORE_CELLS;
 
 // More writes than any step makes; as a line, the last one there can be.
 const LAST: u32 = 4294967295;
@@ -85,7 +86,7 @@ fn answered(s: State, step: Step, store: &mut [u32]) -> u64 {
 
 // A step on a store that is long enough.
 fn tried(ok: bool, s: State, kind: u8, at: u8, answer: u64) -> bool {
-    let mut store = [RUBBISH; 3265];
+    let mut store = [RUBBISH; STORE_CELLS];
     answered(s, step(kind, at), &mut store) == answer && ok
 }
 
@@ -106,7 +107,7 @@ fn plan(processes: u8, channels: u8, ends: u16) -> Topology {
 
 // A state as initialize leaves it with two processes and a channel each way, but with another plan.
 fn planned(processes: u8, channels: u8, ends: u16) -> State {
-    let mut store = [RUBBISH; 3265];
+    let mut store = [RUBBISH; STORE_CELLS];
     let started = engine::initialize(plan(2, 2, 0x0110), &mut store);
     let mut state = started.state;
     state.topology = plan(processes, channels, ends);
@@ -155,9 +156,9 @@ fn start_number(start: Start) -> u64 {
 
 // A recover after an initialize and a change of one cell.
 fn recovered(ok: bool, t: Topology, cell: usize, value: u32, answer: u64) -> bool {
-    let mut store = [RUBBISH; 3265];
+    let mut store = [RUBBISH; STORE_CELLS];
     engine::initialize(plan(2, 2, 0x0110), &mut store);
-    store[cell % 3265] = value;
+    store[cell % STORE_CELLS] = value;
     let started = engine::recover(t, &store);
     let start = started.start;
     start_number(start) == answer && ok
@@ -182,7 +183,7 @@ fn bad_plan(ok: bool, processes: u8, channels: u8, ends: u16, answer: u64) -> bo
 
 // One process: a recover at line k, the last but one, a whole round, and a begin after it, also after a recover.
 fn last_line(k: u32) -> bool {
-    let mut store = [0; 3265];
+    let mut store = [0; STORE_CELLS];
     store[0] = k;
     let old = engine::recover(plan(1, 0, 0), &store);
     let idle = old.state;
@@ -236,7 +237,7 @@ fn markers() {
     tell(b"In marking, a note taken on a closed wire: 14.", ok);
     let idle = marked(Phase::Idle, false);
     let physical = marked(Phase::Physical(0), false);
-    let mut store = [RUBBISH; 3265];
+    let mut store = [RUBBISH; STORE_CELLS];
     let one = engine::step(idle, step(2, 0), &mut store, LAST);
     let two = engine::step(physical, step(2, 0), &mut store, LAST);
     let left = one.state;

@@ -7,6 +7,7 @@ use model::Outcome;
 use model::Record;
 use model::Step;
 use model::Topology;
+use rules::layout::STORE_CELLS;
 
 // How many bytes a step of a script has, and where the plan starts.
 const SCRIPTED: usize = 6;
@@ -160,7 +161,7 @@ fn turn(before: Tally, number: u32, script: &[u8], store: &mut [u32]) -> Tally {
 }
 
 fn steps(topology: Topology, times: u32, script: &[u8]) -> u32 {
-    let mut store = [0; 3265];
+    let mut store = [0; STORE_CELLS];
     let started = engine::initialize(topology, &mut store);
     let state = started.state;
     let mut now = Tally { sum: 0, state };
@@ -186,7 +187,7 @@ fn fill(store: &mut [u32], cells: &[u8]) {
 
 // Work 2: recovers of one store, a cell of which changes each time.
 fn recovers(topology: Topology, times: u32, cells: &[u8]) -> u32 {
-    let mut store = [0; 3265];
+    let mut store = [0; STORE_CELLS];
     fill(&mut store, cells);
     let started = engine::recover(topology, &store);
     let mut state = started.state;

@@ -3,11 +3,12 @@ use borrow.Author.Needs.{needs}
 use Prim.Native.Nat.{_-_}
 use mathlib.Core.Path.{_≡_}
 use lib.ListN.{length}
+use Rattle.model.specs.Layout.{storeCells}
 use Rattle.speed.proofs.recovers.Statement.{statement}
 use Rattle.speed.proofs.recovers.Tie as tie
 
 abbrev Inv-loop : tie.InvT-loop
-Inv-loop topology times cells store₀ state₀ sum₀ i₀ store state sum i = length store ≡ 3265
+Inv-loop topology times cells store₀ state₀ sum₀ i₀ store state sum i = length store ≡ storeCells
 
 abbrev μ-loop : tie.MeasureT-loop
 μ-loop topology times cells store₀ state₀ sum₀ i₀ store state sum i = times - i

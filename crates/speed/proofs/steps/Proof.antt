@@ -3,11 +3,12 @@ use borrow.Author.Needs.{needs}
 use Prim.Native.Nat.{_-_}
 use mathlib.Core.Path.{_≡_}
 use lib.ListN.{length}
+use Rattle.model.specs.Layout.{storeCells}
 use Rattle.speed.proofs.steps.Statement.{statement}
 use Rattle.speed.proofs.steps.Tie as tie
 
 abbrev Inv-loop : tie.InvT-loop
-Inv-loop times script store₀ now₀ i₀ store now i = length store ≡ 3265
+Inv-loop times script store₀ now₀ i₀ store now i = length store ≡ storeCells
 
 abbrev μ-loop : tie.MeasureT-loop
 μ-loop times script store₀ now₀ i₀ store now i = times - i
