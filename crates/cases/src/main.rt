@@ -114,8 +114,7 @@ fn planned(processes: u8, channels: u8, ends: u16) -> State {
     state
 }
 
-// A state with that plan, at a line and in a phase, with so many entries on channel 1, and in the logs of process 1 and
-// channel 1. What is past the plan has too many of each.
+// That plan's state at a line and in a phase, so many entries on channel 1 and in both logs of 1; past it, too many.
 fn made(line: u32, phase: Phase, entries: u8, messages: u8, logged: u8) -> State {
     let mut state = planned(2, 2, 0x0110);
     let round = model::Round { line, phase };

@@ -1,7 +1,6 @@
-// The work that bench/run measures. The input: a byte for the work, 4 for how often, the plan as in document 01, and
-// then a script (six bytes a step: kind, process or channel, body), a store's cells or records; a byte past its end
-// counts as 0. What is printed is a checksum of every answer, and of the line, the words, the channels and the store at
-// the end: 31 × sum + value, modulo 2^32, value by value.
+// The work that bench/run measures. The input: a byte for the work, 4 for how often, the plan as in document 01, then a
+// script (six bytes a step: kind, process or channel, body), a store's cells or records; past its end all is 0. Printed
+// is a checksum of each answer and of the last line, words, channels and store: 31 × sum + value, modulo 2^32.
 use libc::STDOUT_FILENO;
 use model::Outcome;
 use model::Record;
