@@ -30,6 +30,7 @@ use Rattle.model.specs.Receive as receive
 use Rattle.model.specs.Write.{underBudget, writeAll, logWrites, logsWrites}
 use Rattle.model.specs.Step.{react, quietly, receivedOutcome}
 use Rattle.model.specs.Outcome.{accepted}
+use Rattle.model.proofs.laws.Effects.{received-accepted}
 use Rattle.model.proofs.laws.Tests.{true-is-not-false, or-left, or-true, or-false}
 use Rattle.model.proofs.laws.Functions.{upd-unchanged, seen-set}
 use Rattle.rules.specs.declared.reaction.Reaction.{Reaction}
@@ -243,11 +244,6 @@ received c r s x e es =
     ap (λ (t : GlobalState). enterBody r e (setEntries c es t))
     (reacts c r (withCounts (raisedAll (x .logs) (s .counts)) s) (x .logicalFirst) (x .closes))
     ∙ word-entered c r _ e
-
-received-accepted : (e : Entry) → accepted (receivedOutcome e) ≡ true
-unfolding receivedOutcome accepted
-received-accepted (Message b t) = refl
-received-accepted Marker = refl
 
 -- The three ways in which an attempt goes.
 module _ (x : Reaction) (a : Setting) (e : Entry) (line : ℕ) (before : List ℕ) (budget : ℕ) where
