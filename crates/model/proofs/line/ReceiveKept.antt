@@ -46,8 +46,8 @@ use Rattle.model.proofs.line.MessageKept.{channel-logged}
 use Rattle.model.proofs.line.MarkerReceived.{no-marker, marker-received}
 
 -- a new message, with a receiver that has its logical checkpoint
-new-received : (s : GlobalState) (st : List ℕ) (h : History) (i : Inv s st h) (ends : EndsPlanned (s .topology)) (c b : ℕ)
-    (u : Bool) (es : List Entry) (l : c < s .topology .channels) → s .round .phase ≡ Logical
+new-received : (s : GlobalState) (st : List ℕ) (h : History) (i : Inv s st h) (ends : EndsPlanned (s .topology))
+    (c b : ℕ) (u : Bool) (es : List Entry) (l : c < s .topology .channels) → s .round .phase ≡ Logical
     → s .progress .logical (receiver (s .topology) c) ≡ true → u ≡ not (i .tag) → s .channel c ≡ Message b u ∷ es
     → Inv (enterBody (receiver (s .topology) c) (Message b u) (setEntries c es (withCounts (s .counts) s))) st
     (addEvent (receiver (s .topology) c) (receivedOn c b) h)
