@@ -20,7 +20,7 @@ pub fn empty() -> Channel
 }
 
 // What a place's kind and body mean.
-pub fn entry_of(kind: u8, body: u32) -> Entry
+fn entry_of(kind: u8, body: u32) -> Entry
     ensures { λ r. ⌜ r ≡ entryOf kind body ⌝ }
 {
     match kind {
