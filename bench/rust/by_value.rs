@@ -92,8 +92,8 @@ fn send(mut s: State, channel: u8, body: u32) -> Answer {
     done(0, s)
 }
 
-fn checkpoint(mut s: State, process: usize) -> State {
-    s.flags.checkpointed[process] = true;
+fn set_logical(mut s: State, process: usize) -> State {
+    s.flags.logical[process] = true;
     s.tags[process] = !s.tags[process];
     s
 }
@@ -124,8 +124,8 @@ fn marker(mut s: State, at: usize) -> Answer {
     s.channels[at] = pop(s.channels[at]);
     if logical {
         s.flags.closed[at] = true;
-        if !s.flags.checkpointed[to] {
-            s = checkpoint(s, to);
+        if !s.flags.logical[to] {
+            s = set_logical(s, to);
         }
     }
     Answer { outcome: Outcome::ReceivedMarker, made: 0, state: s }
@@ -135,8 +135,8 @@ fn unlogged(mut s: State, at: usize, body: u32) -> Answer {
     let to = s.topology.to[at] as usize;
     s.channels[at] = pop(s.channels[at]);
     s.words[to] = enter(s.words[to], body);
-    if s.round.phase == Phase::Logical && !s.flags.checkpointed[to] {
-        s = checkpoint(s, to);
+    if s.round.phase == Phase::Logical && !s.flags.logical[to] {
+        s = set_logical(s, to);
     }
     Answer { outcome: Outcome::Received(body), made: 0, state: s }
 }
@@ -192,7 +192,7 @@ fn physical_checkpoint(mut s: State, process: u8, store: &mut [u32], budget: u32
     if s.round.phase != Phase::Physical(process) {
         return refused(Refusal::NotNow, s);
     }
-    let cell = checkpoint_cell(s.round.line + 1, process as usize);
+    let cell = physical_cell(s.round.line + 1, process as usize);
     let mut left = budget;
     put(store, &mut left, cell, s.words[process as usize]);
     if budget < 1 {
@@ -212,11 +212,11 @@ fn logical_checkpoint(s: State, process: u8) -> Answer {
         return refused(Refusal::NoSuch, s);
     }
     let at = process as usize;
-    let in_turn = process == 0 || s.flags.checkpointed[0];
-    if s.round.phase != Phase::Logical || s.flags.checkpointed[at] || !in_turn {
+    let in_turn = process == 0 || s.flags.logical[0];
+    if s.round.phase != Phase::Logical || s.flags.logical[at] || !in_turn {
         return refused(Refusal::NotNow, s);
     }
-    done(0, checkpoint(s, at))
+    done(0, set_logical(s, at))
 }
 
 fn send_marker(mut s: State, channel: u8) -> Answer {
@@ -224,7 +224,7 @@ fn send_marker(mut s: State, channel: u8) -> Answer {
         return refused(Refusal::NoSuch, s);
     }
     let at = channel as usize;
-    let ready = s.flags.checkpointed[s.topology.from[at] as usize];
+    let ready = s.flags.logical[s.topology.from[at] as usize];
     if s.round.phase != Phase::Logical || s.flags.sent[at] || !ready {
         return refused(Refusal::NotNow, s);
     }
@@ -239,7 +239,7 @@ fn send_marker(mut s: State, channel: u8) -> Answer {
 fn commit(mut s: State, store: &mut [u32], budget: u32) -> Answer {
     let (processes, channels) = (s.topology.processes as usize, s.topology.channels as usize);
     let through = s.round.phase == Phase::Logical
-        && s.flags.checkpointed[..processes].iter().all(|&f| f)
+        && s.flags.logical[..processes].iter().all(|&f| f)
         && s.flags.closed[..channels].iter().all(|&f| f);
     if !through {
         return refused(Refusal::NotNow, s);

@@ -41,7 +41,7 @@ fn words(t: Topology, store: &[u32]) -> [u32; PROCESSES] {
     let line = store[LINE_CELL];
     let mut words = [0; PROCESSES];
     for p in 0..t.processes as usize {
-        let word = store[checkpoint_cell(line, p)];
+        let word = store[physical_cell(line, p)];
         let bodies = log(store, message_count_cell(line, p));
         words[p] = bodies.iter().fold(word, |word, &body| enter(word, body));
     }

@@ -124,8 +124,8 @@ impl State {
         let Entry::Message { body, tag } = self.channels[at].first() else {
             require(!(logical && self.flags.closed[at]), Refusal::MarkerOnClosed)?;
             if logical {
-                if !self.flags.checkpointed[to] {
-                    self.checkpoint(to);
+                if !self.flags.logical[to] {
+                    self.set_logical(to);
                 }
                 self.flags.closed[at] = true;
             }
@@ -134,8 +134,8 @@ impl State {
         };
         if let Some(log) = log_for(self, at, tag) {
             self.append(log, body, power)?;
-        } else if logical && !self.flags.checkpointed[to] {
-            self.checkpoint(to);
+        } else if logical && !self.flags.logical[to] {
+            self.set_logical(to);
         }
         self.channels[at].pop();
         self.words[to] = enter(self.words[to], body);
@@ -174,7 +174,7 @@ impl State {
     fn physical_checkpoint(&mut self, process: u8, power: &mut Power) -> Result<(), Stop> {
         require(process < self.topology.processes, Refusal::NoSuch)?;
         require(self.round.phase == Phase::Physical(process), Refusal::NotNow)?;
-        let cell = checkpoint_cell(self.round.line + 1, process as usize);
+        let cell = physical_cell(self.round.line + 1, process as usize);
         power.put(cell, self.words[process as usize])?;
         if process + 1 < self.topology.processes {
             self.round.phase = Phase::Physical(process + 1);
@@ -185,24 +185,24 @@ impl State {
         Ok(())
     }
 
-    fn checkpoint(&mut self, process: usize) {
-        self.flags.checkpointed[process] = true;
+    fn set_logical(&mut self, process: usize) {
+        self.flags.logical[process] = true;
         self.tags[process] = !self.tags[process];
     }
 
     fn logical_checkpoint(&mut self, process: u8) -> Result<(), Stop> {
         require(process < self.topology.processes, Refusal::NoSuch)?;
-        let done = self.flags.checkpointed[process as usize];
-        let in_turn = process == 0 || self.flags.checkpointed[0];
+        let done = self.flags.logical[process as usize];
+        let in_turn = process == 0 || self.flags.logical[0];
         require(self.round.phase == Phase::Logical && !done && in_turn, Refusal::NotNow)?;
-        self.checkpoint(process as usize);
+        self.set_logical(process as usize);
         Ok(())
     }
 
     fn send_marker(&mut self, channel: u8) -> Result<(), Stop> {
         require(channel < self.topology.channels, Refusal::NoSuch)?;
         let at = channel as usize;
-        let ready = self.flags.checkpointed[self.topology.from[at] as usize];
+        let ready = self.flags.logical[self.topology.from[at] as usize];
         let due = ready && !self.flags.sent[at];
         require(self.round.phase == Phase::Logical && due, Refusal::NotNow)?;
         require((self.channels[at].count as usize) < ROOM, Refusal::ChannelFull)?;
@@ -214,7 +214,7 @@ impl State {
     fn commit(&mut self, power: &mut Power) -> Result<(), Stop> {
         let (processes, channels) = (self.topology.processes, self.topology.channels);
         let through = self.round.phase == Phase::Logical
-            && self.flags.checkpointed[..processes as usize].iter().all(|&f| f)
+            && self.flags.logical[..processes as usize].iter().all(|&f| f)
             && self.flags.closed[..channels as usize].iter().all(|&f| f);
         require(through, Refusal::NotNow)?;
         power.put(LINE_CELL, self.round.line + 1)?;
@@ -251,7 +251,7 @@ impl State {
         let line = store[LINE_CELL];
         *self = State::idle(*t, line);
         for p in 0..t.processes as usize {
-            let word = store[checkpoint_cell(line, p)];
+            let word = store[physical_cell(line, p)];
             let bodies = log(store, message_count_cell(line, p));
             self.words[p] = bodies.iter().fold(word, |word, &body| enter(word, body));
         }

@@ -12,12 +12,12 @@ fn slot(line: u32) -> usize {
     1 + 1632 * (line % 2) as usize
 }
 
-pub fn checkpoint_cell(line: u32, process: usize) -> usize {
+pub fn physical_cell(line: u32, process: usize) -> usize {
     slot(line) + 66 * process
 }
 
 pub fn message_count_cell(line: u32, process: usize) -> usize {
-    checkpoint_cell(line, process) + 1
+    physical_cell(line, process) + 1
 }
 
 pub fn channel_count_cell(line: u32, channel: usize) -> usize {
@@ -108,7 +108,7 @@ pub fn log_for(s: &State, channel: usize, tag: bool) -> Option<Log> {
     match s.round.phase {
         Phase::Idle => None,
         Phase::Physical(next) => (to < next as usize).then_some(Log::Messages(to)),
-        Phase::Logical => match (s.flags.checkpointed[to], tag == s.tags[to]) {
+        Phase::Logical => match (s.flags.logical[to], tag == s.tags[to]) {
             (true, false) => Some(Log::Channel(channel)),
             (false, true) => Some(Log::Messages(to)),
             _ => None,
@@ -159,7 +159,7 @@ pub fn clear(store: &mut [u32], budget: u32, t: &Topology, line: u32) {
 /// Initialize's writes.
 pub fn clear_all(store: &mut [u32], t: &Topology) {
     for p in 0..t.processes as usize {
-        store[checkpoint_cell(0, p)] = 0;
+        store[physical_cell(0, p)] = 0;
         store[message_count_cell(0, p)] = 0;
     }
     for c in 0..t.channels as usize {

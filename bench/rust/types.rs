@@ -45,7 +45,7 @@ pub struct Channel {
 #[repr(C)]
 #[derive(Clone, Copy)]
 pub struct Flags {
-    pub checkpointed: [bool; PROCESSES],
+    pub logical: [bool; PROCESSES],
     pub closed: [bool; CHANNELS],
     pub sent: [bool; CHANNELS],
 }
@@ -120,7 +120,7 @@ pub enum Outcome {
 pub const EMPTY: Channel = Channel { bodies: [0; ROOM], kinds: [0; ROOM], count: 0 };
 
 pub const NO_FLAGS: Flags =
-    Flags { checkpointed: [false; PROCESSES], closed: [false; CHANNELS], sent: [false; CHANNELS] };
+    Flags { logical: [false; PROCESSES], closed: [false; CHANNELS], sent: [false; CHANNELS] };
 
 pub const NO_COUNTS: Counts = Counts { messages: [0; PROCESSES], channels: [0; CHANNELS] };
 

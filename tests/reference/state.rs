@@ -79,7 +79,7 @@ impl State {
             return Err(6);
         }
         for p in 0..topology.processes {
-            store[store::checkpoint(0, p)] = 0;
+            store[store::physical_checkpoint(0, p)] = 0;
             store[store::message_log(0, p)] = 0;
         }
         for c in 0..topology.channels.len() {
@@ -99,7 +99,7 @@ impl State {
         let mut state = State::blank(topology, line);
         for p in 0..topology.processes {
             let log = store::read_log(cells, store::message_log(line, p), MESSAGE_LOG)?;
-            let copy = cells[store::checkpoint(line, p)];
+            let copy = cells[store::physical_checkpoint(line, p)];
             state.words[p] = log.iter().fold(copy, |word, &body| taken(word, body));
         }
         for c in 0..topology.channels.len() {

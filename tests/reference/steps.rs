@@ -223,7 +223,7 @@ impl State {
     fn physical_checkpoint(&mut self, process: usize, power: &mut Power) -> Result<(), Stop> {
         require(process < self.topology.processes, 8)?;
         require(self.phase == Phase::Physical { next: process }, 12)?;
-        power.put(store::checkpoint(self.line + 1, process), self.words[process])?;
+        power.put(store::physical_checkpoint(self.line + 1, process), self.words[process])?;
         let next = process + 1;
         if next < self.topology.processes {
             self.phase = Phase::Physical { next };

@@ -15,13 +15,13 @@ fn slot(line: u32) -> usize {
 }
 
 /// The cell of a process's physical checkpoint (document 01: copy).
-pub fn checkpoint(line: u32, process: usize) -> usize {
+pub fn physical_checkpoint(line: u32, process: usize) -> usize {
     slot(line) + 66 * process
 }
 
 /// The cell of a message log's count; its bodies stand in the cells after it.
 pub fn message_log(line: u32, process: usize) -> usize {
-    checkpoint(line, process) + 1
+    physical_checkpoint(line, process) + 1
 }
 
 /// The cell of a channel log's count; its bodies stand in the cells after it.
