@@ -32,14 +32,14 @@ sending es out v =
       receiver = v .receiver;
       count = v .count;
       out = out;
-      taken = v .taken;
+      receipts = v .receipts;
       finished = v .finished;
       pending = v .pending;
     }
 
 -- and after a receive; its log has `count` entries then, and the pending slot is `held`
-abbrev pub taking : List Entry → Seen → ℕ → Held → Channel → Channel
-taking es taken count held v =
+abbrev pub leaving : List Entry → Seen → ℕ → Held → Channel → Channel
+leaving es receipts count held v =
     record {
       entries = es;
       sent = v .sent;
@@ -48,7 +48,7 @@ taking es taken count held v =
       receiver = v .receiver;
       count = count;
       out = v .out;
-      taken = taken;
+      receipts = receipts;
       finished = v .finished;
       pending = held;
     }
@@ -82,8 +82,8 @@ module _ (t : Bool) (p : ℕ) (x : Process) (v : Channel) where
           now =
               sees sent c (x .book .events) (sentOn c b) (sent-on c b)
               ∙ ap (λ (l : List ℕ). l ++ (b ∷ [])) (ap (λ (o : Seen). o .all) (sym is) ∙ i .now)
-              ∙ append-assoc (v .taken .all) (bodies (v .entries)) (b ∷ [])
-              ∙ ap (λ (l : List ℕ). v .taken .all ++ l) (sym (bodies-append (v .entries) (Message b (x .tag) ∷ [])));
+              ∙ append-assoc (v .receipts .all) (bodies (v .entries)) (b ∷ [])
+              ∙ ap (λ (l : List ℕ). v .receipts .all ++ l) (sym (bodies-append (v .entries) (Message b (x .tag) ∷ [])));
           finished =
               line-longer (bodiesOn sent c) (x .book) (sentOn c b) (whole ph a)
               ∙ ap (λ (o : Seen). o .line) (sym is) ∙ i .finished;
@@ -114,12 +114,12 @@ module _ (t : Bool) (p : ℕ) (x : Process) (v : Channel) where
 
   -- a message received: the first of the entries
   module _ (c b : ℕ) (u : Bool) (es : List Entry) (first : v .entries ≡ Message b u ∷ es)
-      (is : v .taken ≡ seenOf received c (x .book)) where
-    abbrev taken′ : Seen
-    taken′ = seenOf received c (longer (receivedOn c b) (x .book))
+      (is : v .receipts ≡ seenOf received c (x .book)) where
+    abbrev receipts′ : Seen
+    receipts′ = seenOf received c (longer (receivedOn c b) (x .book))
 
     channel-received : (ph : Phase) (count : ℕ) (held : Held) → ProcessHolds t ph p x → ChannelHolds t ph v
-        → ChannelIn t ph (taking es taken′ count held v) → ChannelHolds t ph (taking es taken′ count held v)
+        → ChannelIn t ph (leaving es receipts′ count held v) → ChannelHolds t ph (leaving es receipts′ count held v)
     unfolding seenOf bodies tagged before
     channel-received ph count held a i round =
         record {
@@ -145,49 +145,49 @@ module _ (t : Bool) (p : ℕ) (x : Process) (v : Channel) where
         let all : Message b u ∷ es ≡ messages t (bodies (Message b u ∷ es)) =
         sym first ∙ plain ∙ ap (λ (l : List Entry). messages t (bodies l)) first in cc
 
-    pub taken-idle : ProcessHolds t Idle p x → ChannelHolds t Idle v
-        → ChannelHolds t Idle (taking es taken′ (v .count) (v .pending) v)
-    taken-idle a i = channel-received Idle (v .count) (v .pending) a i (plain-rest (i .round))
+    pub left-idle : ProcessHolds t Idle p x → ChannelHolds t Idle v
+        → ChannelHolds t Idle (leaving es receipts′ (v .count) (v .pending) v)
+    left-idle a i = channel-received Idle (v .count) (v .pending) a i (plain-rest (i .round))
 
-    pub taken-physical : (next : ℕ) → ProcessHolds t (Physical next) p x → ChannelHolds t (Physical next) v
-        → ChannelHolds t (Physical next) (taking es taken′ (v .count) (v .pending) v)
-    taken-physical next a i =
+    pub left-physical : (next : ℕ) → ProcessHolds t (Physical next) p x → ChannelHolds t (Physical next) v
+        → ChannelHolds t (Physical next) (leaving es receipts′ (v .count) (v .pending) v)
+    left-physical next a i =
         channel-received (Physical next) (v .count) (v .pending) a i
         (record { plain = plain-rest (i .round .plain); empty = i .round .empty; counted = i .round .counted })
 
     -- in the logical phase, by whether the receiver has its logical checkpoint and whether the message is old
     module _ (a : ProcessHolds t Logical p x) (flag : v .receiver ≡ x .logical) (i : ChannelHolds t Logical v) where
       balanced : Balanced t (v .sender) (v .receiver) (v .sent) (v .closed) (Message b u ∷ es) (v .pending .bodies)
-          (v .out .mark) (v .taken .mark)
+          (v .out .mark) (v .receipts .mark)
       balanced = rw (← first) (i .round .balanced)
 
       -- what stood before the mark stands before it
-      same-mark : x .logical ≡ true → taken′ .mark ≡ v .taken .mark
+      same-mark : x .logical ≡ true → receipts′ .mark ≡ v .receipts .mark
       unfolding seenOf
       same-mark e =
           ap (bodiesOn received c) (before-longer (x .book .events) (receivedOn c b) refl (a .round .mark) e)
           ∙ ap (λ (o : Seen). o .mark) (sym is)
 
-      pub taken-before : x .logical ≡ false → u ≡ t
-          → ChannelHolds t Logical (taking es taken′ (v .count) (v .pending) v)
+      pub left-before : x .logical ≡ false → u ≡ t
+          → ChannelHolds t Logical (leaving es receipts′ (v .count) (v .pending) v)
       unfolding seenOf before
-      taken-before e old =
-          let grown : taken′ .mark ≡ v .taken .mark ++ (b ∷ []) =
+      left-before e old =
+          let grown : receipts′ .mark ≡ v .receipts .mark ++ (b ∷ []) =
           rw (is, no-mark (a .round .mark) e) (sees received c (x .book .events) (receivedOn c b) (received-on c b)) in
           channel-received Logical (v .count) (v .pending) a i
           (record { balanced = rw grown (receive-old-before balanced old (flag ∙ e)); counted = i .round .counted })
 
-      pub taken-new : x .logical ≡ true → u ≡ not t
-          → ChannelHolds t Logical (taking es taken′ (v .count) (v .pending) v)
-      taken-new e new =
+      pub left-new : x .logical ≡ true → u ≡ not t
+          → ChannelHolds t Logical (leaving es receipts′ (v .count) (v .pending) v)
+      left-new e new =
           channel-received Logical (v .count) (v .pending) a i
           (record {
             balanced = rw (same-mark e, flag ∙ e) (receive-new balanced new);
             counted = i .round .counted;
           })
 
-      pub taken-logged : x .logical ≡ true → u ≡ t
-          → ChannelHolds t Logical (taking es taken′ (v .count + 1) (loggedHeld b v) v)
-      taken-logged e old =
+      pub left-logged : x .logical ≡ true → u ≡ t
+          → ChannelHolds t Logical (leaving es receipts′ (v .count + 1) (loggedHeld b v) v)
+      left-logged e old =
           channel-received Logical (v .count + 1) (loggedHeld b v) a i
           (record { balanced = rw (same-mark e) (receive-old-logged balanced old (flag ∙ e)); counted = refl })

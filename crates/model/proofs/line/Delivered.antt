@@ -17,7 +17,7 @@ use Rattle.model.proofs.line.Values.{slotBy, heldBy, bookOf, seenOf, pr
 use Rattle.model.proofs.line.Invariant.{ProcessHolds, ChannelHolds, EndsPlanned, Inv}
 use Rattle.model.proofs.line.Books.{longer, whole, book-added, book-added-other, seen-added}
 use Rattle.model.proofs.line.ProcessState.{receiving}
-use Rattle.model.proofs.line.ChannelKept.{taking}
+use Rattle.model.proofs.line.ChannelKept.{leaving}
 use Rattle.model.proofs.line.Frames.{Spared}
 
 module _ (s : GlobalState) (st : List ℕ) (h : History) (i : Inv s st h) (ends : EndsPlanned (s .topology)) (c b : ℕ)
@@ -52,7 +52,7 @@ module _ (s : GlobalState) (st : List ℕ) (h : History) (i : Inv s st h) (ends 
     abbrev pub ChannelTaken : Type 0
     ChannelTaken =
         ChannelHolds (i .tag) (s .round .phase)
-        (taking es (seenOf received c (longer event (bookOf h r))) (counts .channels c)
+        (leaving es (seenOf received c (longer event (bookOf h r))) (counts .channels c)
         (heldBy st′ n (counts .channels c) c)
         (channelAt s st h c))
 
@@ -104,11 +104,11 @@ module _ (s : GlobalState) (st : List ℕ) (h : History) (i : Inv s st h) (ends 
 
     pub delivered-holds : ReceiverHolds → ChannelTaken → Inv delivered st′ (addEvent r event h)
     unfolding enterBody setEntries withChannel withWord withCounts
-    delivered-holds receives taken =
+    delivered-holds receives receipts =
         record {
           sized = kept .sized;
           stored = kept .line ∙ i .stored;
           tag = i .tag;
           processes = processes receives;
-          channels = channels taken;
+          channels = channels receipts;
         }

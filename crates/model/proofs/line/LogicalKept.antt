@@ -38,7 +38,7 @@ flagged a r v =
       receiver = r;
       count = v .count;
       out = v .out;
-      taken = v .taken;
+      receipts = v .receipts;
       finished = v .finished;
       pending = v .pending;
     }

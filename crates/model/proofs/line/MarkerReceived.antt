@@ -36,7 +36,7 @@ shut es v =
       receiver = v .receiver;
       count = v .count;
       out = v .out;
-      taken = v .taken;
+      receipts = v .receipts;
       finished = v .finished;
       pending = v .pending;
     }

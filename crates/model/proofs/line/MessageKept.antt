@@ -25,7 +25,7 @@ use Rattle.model.proofs.line.Values.{Process, Channel, Seen, processAt,
 use Rattle.model.proofs.line.Invariant.{ProcessHolds, ChannelHolds, EndsPlanned, Inv, KeepsBy, KeepsLostBy}
 use Rattle.model.proofs.line.Books.{longer}
 use Rattle.model.proofs.line.ProcessState.{receiving, loggedSlot}
-use Rattle.model.proofs.line.ChannelKept.{taking, loggedHeld}
+use Rattle.model.proofs.line.ChannelKept.{leaving, loggedHeld}
 use Rattle.model.proofs.line.Frames.{Spared}
 use Rattle.model.proofs.line.LogFrames.{other-message, other-channel, message-is-no-channel, log-spared}
 use Rattle.model.proofs.line.LogFrames.{slot-aside}
@@ -64,8 +64,8 @@ module _ (s : GlobalState) (st : List ℕ) (h : History) (i : Inv s st h) (ends 
   abbrev pub Receives : Process → Type 0
   Receives v = ProcessHolds (i .tag) (s .round .phase) r v
 
-  abbrev pub Takes : Channel → Type 0
-  Takes v = ChannelHolds (i .tag) (s .round .phase) v
+  abbrev pub Leaves : Channel → Type 0
+  Leaves v = ChannelHolds (i .tag) (s .round .phase) v
 
   abbrev process : Process
   process = processAt s st h r
@@ -73,35 +73,35 @@ module _ (s : GlobalState) (st : List ℕ) (h : History) (i : Inv s st h) (ends 
   abbrev channel : Channel
   channel = channelAt s st h c
 
-  abbrev taken : Seen
-  taken = seenOf received c (longer (receivedOn c b) (bookOf h r))
+  abbrev receipts : Seen
+  receipts = seenOf received c (longer (receivedOn c b) (bookOf h r))
 
   -- in no log
   pub unlogged : Receives (receiving c b (process .count) (process .pending) process)
-      → Takes (taking es taken (channel .count) (channel .pending) channel)
+      → Leaves (leaving es receipts (channel .count) (channel .pending) channel)
       → Inv (enterBody r (Message b u) (setEntries c es (withCounts (s .counts) s))) st (addEvent r (receivedOn c b) h)
-  unlogged receives takes =
+  unlogged receives leaves =
       delivered-holds s st h i ends c b u es l (s .counts) st (none-spared i) (λ q k o. (refl, refl))
       (λ d k o. (refl, refl))
-      receives takes
+      receives leaves
 
   module _ (fits : Fits (s .topology) (s .counts))
       (told : onMessage (s .topology) c b h ≡ addEvent r (receivedOn c b) h) where
     pub message-unlogged : Receives (receiving c b (process .count) (process .pending) process)
-        → Takes (taking es taken (channel .count) (channel .pending) channel)
+        → Leaves (leaving es receipts (channel .count) (channel .pending) channel)
         → Both s st h c (receiveBy (logsOnly []) s c (Message b u) es)
     unfolding react logsOnly raisedAll logsWrites writeAll receivedOutcome onStep onAccepted onReceive accepted
-    message-unlogged receives takes =
-        record { lasts = rw told (unlogged receives takes); lost = λ x k. absurd (omega arith) }
+    message-unlogged receives leaves =
+        record { lasts = rw told (unlogged receives leaves); lost = λ x k. absurd (omega arith) }
 
     -- in the receiver's message log
     pub message-logged : s .counts .messages r < messagePlaces
         → Receives (receiving c b (process .count + 1) (loggedSlot b process) process)
-        → Takes (taking es taken (channel .count) (channel .pending) channel)
+        → Leaves (leaving es receipts (channel .count) (channel .pending) channel)
         → Both s st h c (receiveBy (logsOnly (messageLog r ∷ [])) s c (Message b u) es)
     unfolding react logsOnly raisedAll raised logsWrites logWrites nextLine receivedOutcome onStep onAccepted onReceive
         accepted
-    message-logged room receives takes =
+    message-logged room receives leaves =
         let log : Log = messageLog r in
         let planned = ends c l .1 in
         let writes = logWrites n log (s .counts .messages r) b in
@@ -118,18 +118,18 @@ module _ (s : GlobalState) (st : List ℕ) (h : History) (i : Inv s st h) (ends 
               (λ d k o. (refl, held-aside s st h i fits log planned b room writes into d k message-is-no-channel))
               (rw (upd-same (s .counts .messages) r (s .counts .messages r + 1), slot-logged s st h i b r planned room)
               receives)
-              (rw (held-aside s st h i fits log planned b room writes into c l message-is-no-channel) takes));
+              (rw (held-aside s st h i fits log planned b room writes into c l message-is-no-channel) leaves));
           lost = log-lost-kept s st h i fits log planned b room;
         }
 
     -- in the channel's log
     pub channel-logged : s .counts .channels c < channelPlaces
         → Receives (receiving c b (process .count) (process .pending) process)
-        → Takes (taking es taken (channel .count + 1) (loggedHeld b channel) channel)
+        → Leaves (leaving es receipts (channel .count + 1) (loggedHeld b channel) channel)
         → Both s st h c (receiveBy (logsOnly (channelLog c ∷ [])) s c (Message b u) es)
     unfolding react logsOnly raisedAll raised logsWrites logWrites nextLine receivedOutcome onStep onAccepted onReceive
         accepted
-    channel-logged room receives takes =
+    channel-logged room receives leaves =
         let log : Log = channelLog c in
         let writes = logWrites n log (s .counts .channels c) b in
         let into = log-into n log (s .counts .channels c) b room in
@@ -150,6 +150,6 @@ module _ (s : GlobalState) (st : List ℕ) (h : History) (i : Inv s st h) (ends 
               (rw (slot-aside s st h i fits log l b room writes into r (ends c l .1)
               (λ e. message-is-no-channel (sym e))) receives)
               (rw (upd-same (s .counts .channels) c (s .counts .channels c + 1), held-logged s st h i b c l room)
-              takes));
+              leaves));
           lost = log-lost-kept s st h i fits log l b room;
         }

@@ -35,7 +35,7 @@ use Rattle.model.proofs.line.Invariant.{tagged, EndsPlanned, Inv, Keeps
 use Rattle.model.proofs.line.Books.{no-mark}
 use Rattle.model.proofs.line.ProcessState.{received-idle, received-waiting, received-saved, received-before}
 use Rattle.model.proofs.line.ProcessState.{received-after}
-use Rattle.model.proofs.line.ChannelKept.{taken-idle, taken-physical, taken-before, taken-new, taken-logged}
+use Rattle.model.proofs.line.ChannelKept.{left-idle, left-physical, left-before, left-new, left-logged}
 use Rattle.model.proofs.line.Phases.{process-in, channel-in}
 use Rattle.model.proofs.line.ReceiveHistory.{on-early, on-late, stays-marked, on-marked, on-unmarked}
 use Rattle.model.proofs.line.ReceiveHistory.{old-is-early}
@@ -56,7 +56,7 @@ new-received s st h i ends c b u es l phase flag new first =
     let process = process-in i phase r (ends c l .1) in
     unlogged s st h i ends c b u es l (rw phase (received-after c b flag process))
     (rw phase
-    (taken-new (i .tag) r (processAt s st h r) (channelAt s st h c) c b u es first refl process refl
+    (left-new (i .tag) r (processAt s st h r) (channelAt s st h c) c b u es first refl process refl
     (channel-in i phase c l)
     flag new))
 
@@ -87,7 +87,7 @@ module _ (s : GlobalState) (st : List ℕ) (h : History) (c : ℕ) (l : c < s .t
         (on-unmarked (s .topology) c b h (process-in i phase _ (ends c l .0) .round .mark))
         (rw phase (received-idle c b (process-in i phase r rl)))
         (rw phase
-        (taken-idle (i .tag) r (processAt s st h r) (channelAt s st h c) c b u es first refl (process-in i phase r rl)
+        (left-idle (i .tag) r (processAt s st h r) (channelAt s st h c) c b u es first refl (process-in i phase r rl)
         (channel-in i phase c l))))
 
     physical : (next : ℕ) → s .round .phase ≡ Physical next → Tested (ltb r next)
@@ -101,7 +101,7 @@ module _ (s : GlobalState) (st : List ℕ) (h : History) (c : ℕ) (l : c < s .t
         (leb-false _ _ (or-left _ _ room))
         (rw phase (received-saved next c b (ltb-true r next e) (process-in i phase r rl)))
         (rw phase
-        (taken-physical (i .tag) r (processAt s st h r) (channelAt s st h c) c b u es first refl next
+        (left-physical (i .tag) r (processAt s st h r) (channelAt s st h c) c b u es first refl next
         (process-in i phase r rl) (channel-in i phase c l))))
     physical next phase (fails e) =
         reacts (Message b u) es (rw (phase, e))
@@ -110,7 +110,7 @@ module _ (s : GlobalState) (st : List ℕ) (h : History) (c : ℕ) (l : c < s .t
         (on-unmarked (s .topology) c b h (process-in i phase _ (ends c l .0) .round .plain .mark))
         (rw phase (received-waiting next c b (ltb-false r next e) (process-in i phase r rl)))
         (rw phase
-        (taken-physical (i .tag) r (processAt s st h r) (channelAt s st h c) c b u es first refl next
+        (left-physical (i .tag) r (processAt s st h r) (channelAt s st h c) c b u es first refl next
         (process-in i phase r rl) (channel-in i phase c l))))
 
     -- in the logical phase, with a receiver that has its logical checkpoint: a new message, and an old one
@@ -128,7 +128,7 @@ module _ (s : GlobalState) (st : List ℕ) (h : History) (c : ℕ) (l : c < s .t
           (on-marked (s .topology) c b h (process-in i phase r rl .round .mark) e)
           (rw phase (received-after c b e (process-in i phase r rl)))
           (rw phase
-          (taken-new (i .tag) r (processAt s st h r) (channelAt s st h c) c b u es first refl (process-in i phase r rl)
+          (left-new (i .tag) r (processAt s st h r) (channelAt s st h c) c b u es first refl (process-in i phase r rl)
           refl
           (channel-in i phase c l) e (beq-same _ _ q ∙ own-tag true e))))
       after e (fails q) =
@@ -139,7 +139,7 @@ module _ (s : GlobalState) (st : List ℕ) (h : History) (c : ℕ) (l : c < s .t
           (leb-false _ _ (or-left _ _ room))
           (rw phase (received-after c b e (process-in i phase r rl)))
           (rw phase
-          (taken-logged (i .tag) r (processAt s st h r) (channelAt s st h c) c b u es first refl
+          (left-logged (i .tag) r (processAt s st h r) (channelAt s st h c) c b u es first refl
           (process-in i phase r rl)
           refl (channel-in i phase c l) e (beq-other _ _ q ∙ ap not (own-tag true e) ∙ Bool·not-not _))))
 
@@ -159,7 +159,7 @@ module _ (s : GlobalState) (st : List ℕ) (h : History) (c : ℕ) (l : c < s .t
           (leb-false _ _ (or-left _ _ room))
           (rw phase (received-before c b e (process-in i phase r rl)))
           (rw phase
-          (taken-before (i .tag) r (processAt s st h r) (channelAt s st h c) c b u es first refl
+          (left-before (i .tag) r (processAt s st h r) (channelAt s st h c) c b u es first refl
           (process-in i phase r rl)
           refl (channel-in i phase c l) e old)))
 
