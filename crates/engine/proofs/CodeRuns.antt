@@ -2,18 +2,18 @@
 use Prim.Native.Nat.{ℕ}
 use mathlib.Core.Path.{_≡_, sym, ap, subst, _∙_}
 use mathlib.Core.List.{List, [], _∷_, _++_}
+use mathlib.Core.Option.{none}
 use Rattle.model.specs.declared.Topology.{Topology}
 use Rattle.model.specs.declared.State.{State}
 use Rattle.model.specs.declared.Step.{Step}
 use Rattle.model.specs.declared.Answer.{Answer}
-use Rattle.model.specs.declared.Start.the-variants.{Ready}
 use Rattle.model.specs.declared.Started.{Started}
 use Rattle.model.specs.State.{view}
-use Rattle.model.specs.Outcome.{accepted}
-use Rattle.model.specs.Start.{Startup, initialize, recover}
+use Rattle.model.specs.Outcome.{saidBy, startRefusal, accepted}
+use Rattle.model.specs.Start.{Startup, initialize, recover, recoverSaid, lineOr, stateOr}
 use Rattle.model.specs.History.{History, newHistory, onStep, onRecover}
 use Rattle.model.specs.Run.{Call, call, recovery, World, next, run, firstWorld, replyTo, onReply, onCall, commitsAfter}
-use Rattle.model.specs.Run.{stateAfter, storeAfter, startOutcome, startedState, countCommit}
+use Rattle.model.specs.Run.{stateAfter, storeAfter, countCommit}
 use Rattle.model.specs.Claim.{Recovered, RecoveredAfter, Reached}
 use Rattle.model.proofs.Trace.{run-append}
 use Rattle.model.proofs.Demand3.{demand-3}
@@ -25,7 +25,7 @@ use Rattle.engine.specs.Runs.{Runs, initialized, stepped, recovered, sta
 -- the same world, reached by calls of the definitions
 pub record Replayed (T : Topology) (w : World) : Type 0 where
   pub before : List ℕ
-  pub ready : initialize T before .start ≡ Ready
+  pub ready : initialize T before .refusal ≡ none
   pub calls : List Call
   pub same : run T (firstWorld T before) calls ≡ w
 
@@ -53,7 +53,7 @@ module _ {T : Topology} {w : World} (i : Replayed T w) where
 
 module _ (T : Topology) where
   -- an initialize, a step and a recover that meet their promises do what the definitions' do
-  started : (before after : List ℕ) (r : Started) → Starts (initialize T before) r after → r .start ≡ Ready
+  started : (before after : List ℕ) (r : Started) → Starts (initialize T before) r after → startRefusal (r .start) ≡ none
       → Replayed T (worldOf (r .state) after newHistory 0)
   unfolding run firstWorld
   started before after r meets ready =
@@ -66,14 +66,14 @@ module _ (T : Topology) where
 
   module _ (s : State) {store : List ℕ} {h : History} {commits : ℕ} (i : Replayed T (worldOf s store h commits)) where
     after-step : (x : Step) (budget : ℕ) (r : Answer) (after : List ℕ) → Answers s x store budget r after
-        → Replayed T (worldOf (r .state) after (onStep T x (r .outcome) h) (countCommit x (r .outcome) commits))
+        → Replayed T (worldOf (r .state) after (onStep T x (saidBy (r .outcome)) h) (countCommit x (saidBy (r .outcome)) commits))
     unfolding next replyTo onReply onCall commitsAfter stateAfter storeAfter
     after-step x budget r after meets =
         subst (Replayed T) (rw (meets .state, meets .store, meets .outcome)) (more i (call x budget))
 
     after-recover : (r : Started) → Starts (recover T store) r store
         → Replayed T (worldOf (r .state) store (onRecover h) commits)
-    unfolding next replyTo onReply onCall commitsAfter stateAfter storeAfter startOutcome startedState accepted
+    unfolding next replyTo onReply onCall commitsAfter stateAfter storeAfter recoverSaid lineOr stateOr accepted
     after-recover r meets =
         subst (Replayed T) (rw (recovers i .accepted, ← meets .state, ← meets .store)) (more i recovery)
 
@@ -87,7 +87,7 @@ pub demand-3-of-code : Demand3OfCode
 unfolding startupOf
 demand-3-of-code T s store h commits i r meets =
     let same : recover T store ≡ startupOf r store =
-    λ j. record { start = sym (meets .start) j; state = sym (meets .state) j; store = sym (meets .store) j } in
+    λ j. record { refusal = sym (meets .start) j; state = sym (meets .state) j; store = sym (meets .store) j } in
     subst (λ (x : Startup). Recovered T x (onRecover h) commits) same (recovers (replayed T i))
 
 pub companion-of-code : CompanionOfCode

@@ -22,7 +22,8 @@ use Rattle.model.specs.State.{GlobalState, view}
 use Rattle.model.specs.Sound.{sound}
 use Rattle.model.specs.Write.{Result, Answered, underBudget, writeAll}
 use Rattle.model.specs.Step.{step, ownChecks, stepChecks, resultOf, effect, answer, quietly}
-use Rattle.model.specs.Outcome.{accepted}
+use Rattle.model.specs.Outcome.{refusalNumber, accepted}
+use Rattle.model.specs.Outcome as says
 use Rattle.model.proofs.laws.Tests.{true-is-not-false}
 use Rattle.engine.specs.Answers.{Meets, Answers, ownResult, Performs, Quiet}
 
@@ -38,8 +39,8 @@ unbudgeted budget s store r e = rw (e, le-ltb budget 0 (omega arith), min-zero b
 
 module _ (s : State) (x : Step) where
   -- a step's own part, refused and accepted
-  own-refused : (r : Refusal) → firstRefusal (ownChecks (view s) x) ≡ some r
-      → ownResult (view s) x ≡ quietly (Refused r) (view s)
+  own-refused : (r : Refusal) → firstRefusal (ownChecks (view s) x) ≡ some (refusalNumber r)
+      → ownResult (view s) x ≡ quietly (says.refused (refusalNumber r)) (view s)
   unfolding ownResult resultOf
   own-refused r e = rw e
 
@@ -48,7 +49,7 @@ module _ (s : State) (x : Step) where
   own-done e = rw e
 
   -- answers without writes
-  pub quiet-refused : (r : Refusal) → firstRefusal (ownChecks (view s) x) ≡ some r → Quiet s x (refusedBy r s)
+  pub quiet-refused : (r : Refusal) → firstRefusal (ownChecks (view s) x) ≡ some (refusalNumber r) → Quiet s x (refusedBy r s)
   unfolding quietly
   quiet-refused r e =
       let own = own-refused r e in
@@ -61,11 +62,11 @@ module _ (s : State) (x : Step) where
       }
 
   pub quiet-done : firstRefusal (ownChecks (view s) x) ≡ none → (seen : GlobalState)
-      → effect (view s) x ≡ quietly Done seen → (next : State) → view next ≡ seen
+      → effect (view s) x ≡ quietly says.done seen → (next : State) → view next ≡ seen
       → Quiet s x (record { outcome = Done; made = 0; state = next })
   unfolding quietly accepted
   quiet-done e seen f next v =
-      let own : ownResult (view s) x ≡ quietly Done seen = own-done e ∙ f in
+      let own : ownResult (view s) x ≡ quietly says.done seen = own-done e ∙ f in
       record {
         outcome = ap (λ (y : Result). y .outcome) (sym own);
         made = refl;
@@ -82,7 +83,7 @@ module _ (s : State) (x : Step) where
         (sym (unbudgeted budget (view s) before (ownResult (view s) x) (q .writes)))
         (record { outcome = q .outcome; made = q .made; state = q .state; kept = q .kept; store = refl })
 
-    pub performs-refused : (r : Refusal) → firstRefusal (ownChecks (view s) x) ≡ some r
+    pub performs-refused : (r : Refusal) → firstRefusal (ownChecks (view s) x) ≡ some (refusalNumber r)
         → Performs s x before budget (refusedBy r s) before
     performs-refused r e = quiet-performs _ (quiet-refused r e)
 
@@ -107,7 +108,7 @@ module _ (s : State) (x : Step) where
           })
 
       pub performs-done : length (effect (view s) x .writes) ≤ budget → (made : ℕ)
-          → made ≡ length (effect (view s) x .writes) → effect (view s) x .outcome ≡ Done → (next : State)
+          → made ≡ length (effect (view s) x .writes) → effect (view s) x .outcome ≡ says.done → (next : State)
           → view next ≡ effect (view s) x .state
           → Performs s x before budget (record { outcome = Done; made = made; state = next }) after
       unfolding underBudget accepted
@@ -125,21 +126,21 @@ module _ (s : State) (x : Step) (before : List ℕ) (budget : ℕ) where
   abbrev found : Result → Answer → List ℕ → Type 0
   found y r after = Meets s (underBudget budget (view s) before y) r after
 
-  refused : (r : Refusal) → step (view s) (length before) x ≡ quietly (Refused r) (view s)
+  refused : (r : Refusal) → step (view s) (length before) x ≡ quietly (says.refused (refusalNumber r)) (view s)
       → Answers s x before budget (refusedBy r s) before
   unfolding answer quietly
   refused r e =
       subst (λ (y : Result). found y (refusedBy r s) before) (sym e)
       (subst (λ (a : Answered). Meets s a (refusedBy r s) before)
-      (sym (unbudgeted budget (view s) before (quietly (Refused r) (view s)) refl))
+      (sym (unbudgeted budget (view s) before (quietly (says.refused (refusalNumber r)) (view s)) refl))
       (record { outcome = refl; made = refl; state = refl; kept = λ _. refl; store = refl }))
 
-  unsound : sound (view s) ≡ false → step (view s) (length before) x ≡ quietly (Refused Unsound) (view s)
+  unsound : sound (view s) ≡ false → step (view s) (length before) x ≡ quietly (says.refused 15) (view s)
   unfolding step stepChecks firstRefusal resultOf
   unsound e = rw e
 
   short : sound (view s) ≡ true → length before < storeCells
-      → step (view s) (length before) x ≡ quietly (Refused ShortStore) (view s)
+      → step (view s) (length before) x ≡ quietly (says.refused 6) (view s)
   unfolding step stepChecks firstRefusal resultOf
   short e l = rw (e, lt-ltb (length before) storeCells l)
 

@@ -15,8 +15,6 @@ use Rattle.model.specs.declared.Flags.{Flags}
 use Rattle.model.specs.declared.Counts.{Counts}
 use Rattle.model.specs.declared.Channel.{Channel}
 use Rattle.model.specs.declared.Entry.{Entry}
-use Rattle.model.specs.declared.Refusal.{Refusal}
-use Rattle.model.specs.declared.Refusal.the-variants.{NoSuch}
 use Rattle.model.specs.declared.Step.the-variants.{Receive}
 use Rattle.model.specs.Notation.{tabulate, upd}
 use Rattle.model.specs.Check.{firstRefusal}
@@ -42,7 +40,7 @@ use Rattle.engine.proofs.Receptions.{received}
 use Rattle.engine.proofs.Views.{same-state}
 
 pub no-channel : (s : State) (c : ℕ) → s .topology .channels ≤ c
-    → firstRefusal (ownChecks (view s) (Receive c)) ≡ some NoSuch
+    → firstRefusal (ownChecks (view s) (Receive c)) ≡ some 8
 unfolding ownChecks priorChecks roomChecks logChecks hasChannel firstRefusal view
 no-channel s c l = rw (le-ltb c (s .topology .channels) l)
 
@@ -109,10 +107,10 @@ module _ (s : State) (c : ℕ) (planned : c < s .topology .channels) (k : Channe
   own : ownResult (view s) (Receive c) ≡ unlessRefused (firstRefusal (receiveChecks x setting)) (view s) result
   unfolding ownResult resultOf unlessRefused
   own =
-      ap (λ (o : Option Refusal). resultOf o (view s) (Receive c)) checks
+      ap (λ (o : Option ℕ). resultOf o (view s) (Receive c)) checks
       ∙ go (firstRefusal (receiveChecks x setting)) refl
     where
-      go : (o : Option Refusal) → firstRefusal (receiveChecks x setting) ≡ o
+      go : (o : Option ℕ) → firstRefusal (receiveChecks x setting) ≡ o
           → resultOf o (view s) (Receive c) ≡ unlessRefused o (view s) result
       go none h = effect-is (has-entry h)
       go (some n) h = refl

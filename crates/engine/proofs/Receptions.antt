@@ -29,7 +29,7 @@ use Rattle.model.specs.Receive.{anyFull}
 use Rattle.model.specs.Receive as receive
 use Rattle.model.specs.Write.{underBudget, writeAll, logWrites, logsWrites}
 use Rattle.model.specs.Step.{react, quietly, receivedOutcome}
-use Rattle.model.specs.Outcome.{accepted}
+use Rattle.model.specs.Outcome.{refused, refusalNumber, saidBy, accepted}
 use Rattle.model.proofs.laws.Effects.{received-accepted}
 use Rattle.model.proofs.laws.Tests.{true-is-not-false, or-left, or-true, or-false}
 use Rattle.model.proofs.laws.Functions.{upd-unchanged, seen-set}
@@ -247,12 +247,12 @@ received c r s x e es =
 
 -- The three ways in which an attempt goes.
 module _ (x : Reaction) (a : Setting) (e : Entry) (line : ℕ) (before : List ℕ) (budget : ℕ) where
-  pub attempt-refused : (n : Refusal) → firstRefusal (receiveChecks x a) ≡ some n
+  pub attempt-refused : (n : Refusal) → firstRefusal (receiveChecks x a) ≡ some (refusalNumber n)
       → Attempts x a e line before budget (record { received = false; outcome = Refused n; made = 0 }) before
   unfolding unlessRefused quietly accepted
   attempt-refused n h =
       record {
-        answered = λ s next. rw h (unbudgeted budget s before (quietly (Refused n) s) refl);
+        answered = λ s next. rw h (unbudgeted budget s before (quietly (refused (refusalNumber n)) s) refl);
         received = refl;
         passed = λ f. true-is-not-false f refl;
       }
@@ -270,7 +270,7 @@ module _ (x : Reaction) (a : Setting) (e : Entry) (line : ℕ) (before : List �
           passed = λ f. h;
         }
 
-    pub attempt-done : length (bodyWrites x a line (bodyOf e)) ≤ budget → (o : Outcome) → o ≡ receivedOutcome e
+    pub attempt-done : length (bodyWrites x a line (bodyOf e)) ≤ budget → (o : Outcome) → saidBy o ≡ receivedOutcome e
         → (n : ℕ) → n ≡ length (bodyWrites x a line (bodyOf e))
         → Attempts x a e line before budget (record { received = true; outcome = o; made = n }) after
     unfolding unlessRefused underBudget

@@ -11,9 +11,6 @@ use borrow.Author.Tests.{leb-true, not-false}
 use native.Mathlib.Omega.{arith}
 use Rattle.model.specs.declared.Channel.{Channel}
 use Rattle.model.specs.declared.Entry.{Entry}
-use Rattle.model.specs.declared.Refusal.{Refusal}
-use Rattle.model.specs.declared.Refusal.the-variants.{BadCount}
-use Rattle.model.specs.declared.Start.the-variants.{Ready, Refused}
 use Rattle.model.specs.declared.Started.{Started}
 use Rattle.model.specs.declared.Topology.{Topology}
 use Rattle.model.specs.Notation.{tabulate, allBelow}
@@ -23,6 +20,7 @@ use Rattle.model.specs.Channel.{entries, messages}
 use Rattle.model.specs.Layout.{cell, processCells, channelCells, Log, messageLog, channelLog, places}
 use Rattle.model.specs.Layout.{messagePlaces, channelPlaces, countCell, logged}
 use Rattle.model.specs.State.{GlobalState, view, idleState, blankState, emptyChannel}
+use Rattle.model.specs.Outcome.{startRefusal}
 use Rattle.model.specs.Start.{startupOr, initializeRefusal, recoverRefusal, storedLine, countFits, countsFit, restored}
 use Rattle.model.specs.Start.{recoveredWord, recoveredChannel}
 use Rattle.model.proofs.laws.Tests.{and-left, and-right}
@@ -37,12 +35,12 @@ use Rattle.engine.proofs.Clearing.{message-cell, channel-cell}
 
 -- the two ways in which initialize and recover answer
 module _ (s : GlobalState) (after before : List ℕ) (r : Started) where
-  pub starts-ready : {o : Option Refusal} → o ≡ none → r .start ≡ Ready → view (r .state) ≡ s
+  pub starts-ready : {o : Option ℕ} → o ≡ none → startRefusal (r .start) ≡ none → view (r .state) ≡ s
       → Starts (startupOr o s after before) r after
   unfolding startupOr
   starts-ready e a v = rw e (record { start = a; state = v; store = refl })
 
-  pub starts-refused : {o : Option Refusal} (n : Refusal) → o ≡ some n → r .start ≡ Refused n
+  pub starts-refused : {o : Option ℕ} (n : ℕ) → o ≡ some n → startRefusal (r .start) ≡ some n
       → view (r .state) ≡ blankState → Starts (startupOr o s after before) r before
   unfolding startupOr
   starts-refused n e a v = rw e (record { start = a; state = v; store = refl })
@@ -102,7 +100,7 @@ unfolding recoverRefusal countsFit countFits
 readable T st e = record { sized = sized-start T st (both .0); fits = fits }
   where
     check : List Check
-    check = (not (countsFit T st) ⇒ BadCount) ∷ []
+    check = (not (countsFit T st) ⇒ 16) ∷ []
 
     both : (initializeRefusal T (length st) ≡ none) × (firstRefusal check ≡ none)
     both = or-else-none (initializeRefusal T (length st)) (firstRefusal check) e

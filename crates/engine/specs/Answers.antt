@@ -14,17 +14,17 @@ use lib.Dec.{ltb}
 use Rattle.model.specs.Notation.{allBelow}
 use Rattle.model.specs.Check.{firstRefusal}
 use Rattle.model.specs.State.{GlobalState, view}
-use Rattle.model.specs.Outcome.{accepted}
+use Rattle.model.specs.Outcome.{saidBy, accepted}
 use Rattle.model.specs.Write.{Result, Answered, underBudget}
 use Rattle.model.specs.Step.{answer, ownChecks, resultOf}
 
 -- The answer r to the state s, and the store after it, are those that the definition a has. Where the step is refused
 -- or the power is lost, the very state handed in comes back.
 pub record Meets (s : State) (a : Answered) (r : Answer) (after : List ℕ) : Type 0 where
-  pub outcome : r .outcome ≡ a .outcome
+  pub outcome : saidBy (r .outcome) ≡ a .outcome
   pub made : r .made ≡ a .made
   pub state : view (r .state) ≡ a .state
-  pub kept : accepted (r .outcome) ≡ false → r .state ≡ s
+  pub kept : accepted (saidBy (r .outcome)) ≡ false → r .state ≡ s
   pub store : after ≡ a .store
 
 -- the public promise of step
@@ -49,8 +49,8 @@ roundAfter round p n = record { line = round .line; phase = cond (ltb (p + 1) n)
 
 -- the promise of a step's own part that writes nothing
 pub record Quiet (s : State) (x : Step) (r : Answer) : Type 0 where
-  pub outcome : r .outcome ≡ ownResult (view s) x .outcome
+  pub outcome : saidBy (r .outcome) ≡ ownResult (view s) x .outcome
   pub made : r .made ≡ 0
   pub state : view (r .state) ≡ ownResult (view s) x .state
-  pub kept : accepted (r .outcome) ≡ false → r .state ≡ s
+  pub kept : accepted (saidBy (r .outcome)) ≡ false → r .state ≡ s
   pub writes : ownResult (view s) x .writes ≡ []

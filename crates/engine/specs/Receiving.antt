@@ -10,9 +10,6 @@ use lib.Dec.{eqb}
 use Rattle.model.specs.declared.Entry.{Entry}
 use Rattle.model.specs.declared.Flags.{Flags}
 use Rattle.model.specs.declared.Entry.the-variants.{Message, Marker}
-use Rattle.model.specs.declared.Outcome.the-variants.{Refused}
-use Rattle.model.specs.declared.Refusal.{Refusal}
-use Rattle.model.specs.declared.Refusal.the-variants.{ChannelEmpty, MarkerOnClosed, LogFull}
 use Rattle.model.specs.Notation.{upd}
 use Rattle.model.specs.Check.{Check, _⇒_, firstRefusal}
 use Rattle.model.specs.Word.{enter}
@@ -23,7 +20,7 @@ use Rattle.model.specs.State.{GlobalState, Progress, viewProgress, viewCounts}
 use Rattle.model.specs.Receive.{anyFull}
 use Rattle.model.specs.Write.{Write, Result, underBudget, logsWrites}
 use Rattle.model.specs.Step.{quietly, receivedOutcome}
-use Rattle.model.specs.Outcome.{accepted}
+use Rattle.model.specs.Outcome.{refused, saidBy, accepted}
 use Rattle.rules.specs.declared.reaction.Reaction.{Reaction}
 use Rattle.rules.specs.Reacting.{viewReaction}
 use Rattle.engine.specs.declared.receive.Setting.{Setting}
@@ -46,7 +43,7 @@ full x a = anyFull (viewCounts (a .counts)) (logsOf x a)
 -- refusals 10, 14 and 11
 abbrev pub receiveChecks : Reaction → Setting → List Check
 receiveChecks x a =
-    (eqb (a .entries) 0 ⇒ ChannelEmpty) ∷ ((x .closes && a .closed) ⇒ MarkerOnClosed) ∷ (full x a ⇒ LogFull) ∷ []
+    (eqb (a .entries) 0 ⇒ 10) ∷ ((x .closes && a .closed) ⇒ 14) ∷ (full x a ⇒ 11) ∷ []
 
 -- what a body writes, for the line after this one
 abbrev pub bodyWrites : Reaction → Setting → ℕ → ℕ → List Write
@@ -70,9 +67,9 @@ abbrev pub flagsAfter : Reaction → ℕ → ℕ → Flags → Progress
 flagsAfter x c r flags = progressAfter (x .«logical_first») (x .closes) c r (viewProgress flags)
 
 -- what a receive does that is refused, or is not
-unfoldable pub unlessRefused : Option Refusal → GlobalState → Result → Result
+unfoldable pub unlessRefused : Option ℕ → GlobalState → Result → Result
 unlessRefused none s r = r
-unlessRefused (some n) s r = quietly (Refused n) s
+unlessRefused (some n) s r = quietly (refused n) s
 
 -- The promise of an attempt: outcome, writes and store are those of a receive of the entry e, whatever the states
 -- before and after it; and where it comes off, nothing turned it down.
@@ -82,6 +79,6 @@ pub record Attempts (x : Reaction) (a : Setting) (e : Entry) (line : ℕ) (befor
       → underBudget budget s before
       (unlessRefused (firstRefusal (receiveChecks x a)) s
       (record { outcome = receivedOutcome e; state = next; writes = bodyWrites x a line (bodyOf e) }))
-      ≡ record { outcome = r .outcome; made = r .made; state = cond (r .received) next s; store = after }
-  pub received : accepted (r .outcome) ≡ r .received
+      ≡ record { outcome = saidBy (r .outcome); made = r .made; state = cond (r .received) next s; store = after }
+  pub received : accepted (saidBy (r .outcome)) ≡ r .received
   pub passed : r .received ≡ true → firstRefusal (receiveChecks x a) ≡ none

@@ -4,16 +4,14 @@
 use Prim.Native.Nat.{ℕ, _≤_}
 use mathlib.Core.Path.{_≡_}
 use mathlib.Core.List.{List}
+use mathlib.Core.Option.{none}
 use Rattle.model.specs.declared.Topology.{Topology}
 use Rattle.model.specs.declared.State.{State}
 use Rattle.model.specs.declared.Step.{Step}
 use Rattle.model.specs.declared.Answer.{Answer}
-use Rattle.model.specs.declared.Outcome.the-variants as outcome
-use Rattle.model.specs.declared.Refusal.{Refusal}
-use Rattle.model.specs.declared.Start.the-variants.{Ready}
 use Rattle.model.specs.declared.Started.{Started}
 use Rattle.model.specs.State.{view}
-use Rattle.model.specs.Outcome.{refusalNumber}
+use Rattle.model.specs.Outcome.{refused, saidBy, startRefusal}
 use Rattle.model.specs.Start.{Startup, initialize, recover}
 use Rattle.model.specs.History.{History, newHistory, onStep, onRecover}
 use Rattle.model.specs.Run.{countCommit}
@@ -25,19 +23,19 @@ use Rattle.engine.specs.Starts.{Starts}
 -- code's own outcomes, and how many commits were accepted. Each call is given the state and the store returned last.
 pub data Runs (T : Topology) : State → List ℕ → History → ℕ → Type 0 where
   -- an initialize that is ready
-  initialized : (before after : List ℕ) (r : Started) → Starts (initialize T before) r after → r .start ≡ Ready
+  initialized : (before after : List ℕ) (r : Started) → Starts (initialize T before) r after → startRefusal (r .start) ≡ none
       → Runs T (r .state) after newHistory 0
   -- a step, accepted or not, with any budget
   stepped : {s : State} {store : List ℕ} {h : History} {commits : ℕ} → Runs T s store h commits
       → (x : Step) (budget : ℕ) (r : Answer) (after : List ℕ) → Answers s x store budget r after
-      → Runs T (r .state) after (onStep T x (r .outcome) h) (countCommit x (r .outcome) commits)
+      → Runs T (r .state) after (onStep T x (saidBy (r .outcome)) h) (countCommit x (saidBy (r .outcome)) commits)
   -- a recover, which only reads
   recovered : {s : State} {store : List ℕ} {h : History} {commits : ℕ} → Runs T s store h commits
       → (r : Started) → Starts (recover T store) r store → Runs T (r .state) store (onRecover h) commits
 
 -- what initialize or recover answered, as the definitions have it
 unfoldable pub startupOf : Started → List ℕ → Startup
-startupOf r store = record { start = r .start; state = view (r .state); store = store }
+startupOf r store = record { refusal = startRefusal (r .start); state = view (r .state); store = store }
 
 -- Demand 3: any recover after a run that meets its promise has all that Recovered says.
 abbrev pub Demand3OfCode : Type 0
@@ -51,4 +49,4 @@ abbrev pub CompanionOfCode : Type 0
 CompanionOfCode =
     (T : Topology) (s : State) (store : List ℕ) (h : History) (commits : ℕ) → Runs T s store h commits
     → (x : Step) (budget : ℕ) (r : Answer) (after : List ℕ) → Answers s x store budget r after
-    → (n : Refusal) → r .outcome ≡ outcome.Refused n → (8 ≤ refusalNumber n) × (refusalNumber n ≤ 13)
+    → (n : ℕ) → saidBy (r .outcome) ≡ refused n → (8 ≤ n) × (n ≤ 13)

@@ -6,12 +6,13 @@ use lib.ListN.{getD}
 use Rattle.model.specs.declared.Channel.{Channel}
 use Rattle.model.specs.declared.Entry.{Entry}
 use Rattle.model.specs.declared.Started.{Started}
+use Rattle.model.specs.Outcome.{startRefusal}
 use Rattle.model.specs.Channel.{entries}
 use Rattle.model.specs.State.{view, emptyChannel}
 use Rattle.model.specs.Start.{Startup}
 
 pub record Starts (b : Startup) (r : Started) (after : List ℕ) : Type 0 where
-  pub start : r .start ≡ b .start
+  pub start : startRefusal (r .start) ≡ b .refusal
   pub state : view (r .state) ≡ b .state
   pub store : after ≡ b .store
 

@@ -17,15 +17,14 @@ use rules::layout;
 use rules::topology;
 ghost use mathlib.Core.Path.{_≡_};
 ghost use mathlib.Core.List.{[]};
-ghost use mathlib.Core.Option.{none};
+ghost use mathlib.Core.Option.{none, some};
 ghost use Prim.Native.Nat.{_≤_};
 ghost use lib.ListN.{length};
 ghost use Rattle.model.specs.Notation.{concatBelow};
-ghost use Rattle.model.specs.Check.{refusalOf};
+ghost use Rattle.model.specs.Outcome.{refusalNumber, refusalOf, startRefusal};
 ghost use Rattle.model.specs.Topology.{processLimit};
 ghost use Rattle.model.specs.Layout.{storeCells};
 ghost use Rattle.model.specs.State.{view, idleState, blankState};
-ghost use Rattle.model.specs.declared.Start.the-variants.{Refused};
 ghost use Rattle.model.specs.Write.{writeAll};
 ghost use Rattle.model.specs.Start.{initialize, initializeRefusal, initializeWrites, recover, recoverRefusal};
 ghost use Rattle.model.specs.Start.{recoveredWord, recoveredChannel, countsFit};
@@ -71,7 +70,7 @@ fn initial(topology: Topology) -> State
 
 // A refusal, with the blank state: no process, no channel.
 fn refused(refusal: Refusal) -> Started
-    ensures { λ r. ⌜ (r .start ≡ Refused refusal) × (view (r .state) ≡ blankState) ⌝ }
+    ensures { λ r. ⌜ (startRefusal (r .start) ≡ some (refusalNumber refusal)) × (view (r .state) ≡ blankState) ⌝ }
 {
     let state = initial(Topology {
         processes: 0,

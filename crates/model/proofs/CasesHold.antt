@@ -46,8 +46,8 @@ unfolding
     step.receivedOutcome step.receive step.afterPhysical step.effect step.resultOf step.step step.answer
     start.startupOr start.initializeRefusal start.initializeWrites start.initialize start.storedLine start.countFits
     start.countsFit start.recoverRefusal start.restoredBy start.restored start.recoveredWord start.recoveredChannel
-    start.recover
-    outcome.outcomeValues
+    start.recover start.lineOr start.recoverSaid start.stateOr
+    outcome.saidValues
     records.fieldsOf records.absent records.provided records.recordOf records.andThen records.nonzero records.readByte
     records.readBody records.readField records.stands records.goodMap records.fieldsAfter records.withRest
     records.readFields records.readRecord
@@ -55,8 +55,8 @@ unfolding
     program.readRequest program.readingThen program.readAll program.ofAnswer program.ofStartup program.serve
     program.lineThen program.brokenLine program.session program.sessionFrom program.sessionOf program.report
     program.playedOf program.played program.head
-    run.startOutcome run.replyTo run.startedState run.stateAfter run.storeAfter run.next run.run run.firstWorld
-    cases.outcomeWord cases.saidNumbers cases.lineNumbers cases.numbered cases.outputNumbers cases.printed cases.input
+    run.replyTo run.stateAfter run.storeAfter run.next run.run run.firstWorld
+    cases.saidWord cases.lineNumbers cases.numbered cases.outputNumbers cases.printed cases.input
     cases.oneProcess cases.callWith cases.callOf cases.afterSteps cases.answerIn cases.answerLine cases.thenRecover
     cases.tagNumber cases.entryNumbers cases.thenTags cases.readingNumbers cases.starred
 starred-hold = refl

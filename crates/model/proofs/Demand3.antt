@@ -7,16 +7,15 @@ use mathlib.Core.List.{List, [], _∷_}
 use mathlib.Core.Option.{none}
 use Rattle.model.specs.declared.Topology.{Topology}
 use Rattle.model.specs.declared.Step.{Step}
-use Rattle.model.specs.declared.Start.the-variants.{Ready}
 use Rattle.model.specs.Topology.{topologyRefusal}
 use Rattle.model.specs.Outcome.{accepted}
 use Rattle.model.specs.State.{idleState}
-use Rattle.model.specs.Start.{initialize, recover}
+use Rattle.model.specs.Start.{initialize, recover, recoverSaid, lineOr, stateOr}
 use Rattle.model.specs.Step.{answer}
 use Rattle.model.specs.History.{onRecover}
 use Rattle.model.specs.Run.{Call, call, recovery, World, next, run, firstWorld, replyTo, onReply, onCall}
 use Rattle.model.specs.Run.{stateAfter}
-use Rattle.model.specs.Run.{storeAfter, startOutcome, startedState, commitsAfter, countCommit}
+use Rattle.model.specs.Run.{storeAfter, commitsAfter, countCommit}
 use Rattle.model.specs.Claim.{Recovered, RecoveredAfter, Demand3}
 use Rattle.model.proofs.laws.Effects.{answer-follows}
 use Rattle.model.proofs.line.Invariant.{Inv}
@@ -52,7 +51,7 @@ step-keeps w x budget i =
 
 recover-keeps : (w : World) → topologyRefusal (w .state .topology) ≡ none → InvOf (w .state .topology) w
     → InvOf (w .state .topology) (next (w .state .topology) w recovery)
-unfolding next replyTo onReply onCall stateAfter storeAfter commitsAfter startOutcome startedState accepted idleState
+unfolding next replyTo onReply onCall stateAfter storeAfter commitsAfter recoverSaid lineOr stateOr accepted idleState
 recover-keeps w good i =
     rw (
       recovers (w .state) (w .store) (w .history) good (i .holds) .accepted,
@@ -81,7 +80,7 @@ module _ (T : Topology) (good : topologyRefusal T ≡ none) where
   run-keeps w i [] = i
   run-keeps w i (c ∷ cs) = run-keeps (next T w c) (call-keeps w i c) cs
 
-module _ (T : Topology) (store : List ℕ) (ready : initialize T store .start ≡ Ready) (calls : List Call) where
+module _ (T : Topology) (store : List ℕ) (ready : initialize T store .refusal ≡ none) (calls : List Call) where
   pub end-holds : InvOf T (run T (firstWorld T store) calls)
   unfolding firstWorld
   end-holds =

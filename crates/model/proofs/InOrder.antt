@@ -7,7 +7,6 @@ use mathlib.Core.List.{List, [], _∷_}
 use mathlib.Core.Option.{some}
 use lib.ListN.{length}
 use Rattle.model.specs.declared.Topology.{Topology}
-use Rattle.model.specs.declared.Refusal.{Refusal}
 use Rattle.model.specs.declared.Step.{Step}
 use Rattle.model.specs.declared.Step.the-variants.{Send, Receive, Begin, PhysicalCheckpoint, LogicalCheckpoint}
 use Rattle.model.specs.declared.Step.the-variants.{SendMarker, Commit, Abort}
@@ -41,19 +40,19 @@ unfolding checkNumbers
 channel-in-order T c = refl
 
 -- 1 and 2 come before 3 to 5,
-pub sizes-first : (T : Topology) (r : Refusal) → sizeRefusal (T .processes) (T .channels) ≡ some r
+pub sizes-first : (T : Topology) (r : ℕ) → sizeRefusal (T .processes) (T .channels) ≡ some r
     → topologyRefusal T ≡ some r
 unfolding topologyRefusal orElse
 sizes-first T r e = rw e refl
 
 -- 1 to 5 before 6,
-pub topology-first : (T : Topology) (cells : ℕ) (r : Refusal) → topologyRefusal T ≡ some r
+pub topology-first : (T : Topology) (cells : ℕ) (r : ℕ) → topologyRefusal T ≡ some r
     → initializeRefusal T cells ≡ some r
 unfolding initializeRefusal orElse
 topology-first T cells r e = rw e refl
 
 -- and 1 to 6 before 16
-pub initialize-first : (T : Topology) (store : List ℕ) (r : Refusal) → initializeRefusal T (length store) ≡ some r
+pub initialize-first : (T : Topology) (store : List ℕ) (r : ℕ) → initializeRefusal T (length store) ≡ some r
     → recoverRefusal T store ≡ some r
 unfolding recoverRefusal orElse
 initialize-first T store r e = rw e refl

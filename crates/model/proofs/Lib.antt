@@ -3,6 +3,7 @@ pub mod store
 pub mod line
 pub mod RoundTrip
 pub mod InOrder
+pub mod ToldApart
 pub mod CasesHold
 pub mod Soundness
 pub mod Demand3

@@ -14,11 +14,10 @@ use Rattle.model.specs.declared.Topology.{Topology}
 use Rattle.model.specs.declared.Entry.{Entry}
 use Rattle.model.specs.declared.Entry.the-variants.{Message, Marker}
 use Rattle.model.specs.declared.Step.the-variants.{Receive, Commit}
-use Rattle.model.specs.declared.Outcome.the-variants.{Received}
 use Rattle.model.specs.Topology.{sender, receiver}
 use Rattle.model.specs.Channel.{bodies}
 use Rattle.model.specs.State.{GlobalState}
-use Rattle.model.specs.Outcome.{accepted}
+use Rattle.model.specs.Outcome.{took, accepted}
 use Rattle.model.specs.Step.{quietly, receivedOutcome, receive, effect, answer}
 use Rattle.model.specs.History.{Event, History, Direction, sent, received, isOn, sameDirection, bodiesOn}
 use Rattle.model.specs.History.{placeOfSend}
@@ -71,7 +70,7 @@ nth-send c (suc n) (e ∷ es) b rest p = go (test (isOn sent c e)) (nth-send c n
     go (fails t) fewer ih = rw t (ih (rw t at p))
 
 -- the first entry of a channel on which a message was received
-received-first : (s : GlobalState) (c : ℕ) (es : List Entry) (b : ℕ) → receive s c es .outcome ≡ Received b
+received-first : (s : GlobalState) (c : ℕ) (es : List Entry) (b : ℕ) → receive s c es .outcome ≡ took b
     → (rest : List ℕ) × (bodies es ≡ b ∷ rest)
 unfolding receive quietly receivedOutcome bodies
 received-first s c [] b e = let z : _≡_ {A = ℕ} 0 1 = cc in absurd (omega arith)
@@ -91,7 +90,7 @@ module _ (s : GlobalState) (st : List ℕ) (h : History) (i : Inv s st h) where
       let phase = is-logical (s .round .phase) (a .prior .phase) in
       mark-there (process-in i phase p l .round .mark) (a .prior .processes p l)
 
-  sends : (c budget b : ℕ) → answer s (Receive c) st budget .outcome ≡ Received b
+  sends : (c budget b : ℕ) → answer s (Receive c) st budget .outcome ≡ took b
       → take 1 (drop (lookedAt (s .topology) c h) (h .events (sender (s .topology) c))) ≡ sentOn c b ∷ []
   unfolding accepted effect lookedAt seenOf bookOf
   sends c budget b e =

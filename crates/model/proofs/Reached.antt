@@ -16,24 +16,20 @@ use Rattle.model.specs.declared.Entry.the-variants.{Message, Marker}
 use Rattle.model.specs.declared.Step.{Step}
 use Rattle.model.specs.declared.Step.the-variants.{Send, Receive, Begin, PhysicalCheckpoint}
 use Rattle.model.specs.declared.Step.the-variants.{LogicalCheckpoint, SendMarker, Commit, Abort}
-use Rattle.model.specs.declared.Refusal.{Refusal}
-use Rattle.model.specs.declared.Outcome.the-variants.{Refused, PowerLost}
-use Rattle.model.specs.declared.Start.{Start}
-use Rattle.model.specs.declared.Start.the-variants as start
 use Rattle.model.specs.Check.{Check, firstRefusal}
 use Rattle.model.specs.Topology.{receiver, hasChannel}
 use Rattle.model.specs.Layout.{storeCells}
 use Rattle.model.specs.State.{GlobalState}
 use Rattle.model.specs.Sound.{sound}
-use Rattle.model.specs.Outcome.{refusalNumber, accepted}
+use Rattle.model.specs.Outcome.{refused, cut, accepted}
 use Rattle.model.specs.Write.{underBudget}
 use Rattle.model.specs.Receive.{Reaction, logsOnly, reactionTo}
 use Rattle.model.specs.Step.{reaction, firstReaction, markerOnClosed, priorChecks, roomChecks, logChecks}
 use Rattle.model.specs.Step.{ownChecks}
 use Rattle.model.specs.Step.{stepChecks, quietly, resultOf, step, answer}
-use Rattle.model.specs.Start.{recover}
+use Rattle.model.specs.Start.{recover, stateOr}
 use Rattle.model.specs.History.{History}
-use Rattle.model.specs.Run.{Call, call, recovery, World, next, run, firstWorld, stateAfter, startedState}
+use Rattle.model.specs.Run.{Call, call, recovery, World, next, run, firstWorld, stateAfter}
 use Rattle.model.specs.Claim.{Demand3Companion}
 use Rattle.model.proofs.laws.Tests.{and-left, and-right, true-is-not-false, Tested, holds, fails, test, either}
 use Rattle.model.proofs.laws.Passing.{below}
@@ -46,11 +42,11 @@ use Rattle.model.proofs.line.Phases.{channel-in}
 use Rattle.model.proofs.Demand3.{end-holds, demand-3}
 
 -- the refusals that are left to a step: 8 to 13
-abbrev isLeft : Refusal → Bool
-isLeft r = leb 8 (refusalNumber r) && leb (refusalNumber r) 13
+abbrev isLeft : ℕ → Bool
+isLeft n = leb 8 n && leb n 13
 
-abbrev Left : Refusal → Type 0
-Left r = isLeft r ≡ true
+abbrev Left : ℕ → Type 0
+Left n = isLeft n ≡ true
 
 -- whichever check of the list is the first to fail has one of these
 data AllLeft : List Check → Type 0 where
@@ -61,7 +57,7 @@ data AllLeft : List Check → Type 0 where
 left : {c : Check} {cs : List Check} → Left (c .refusal) → AllLeft cs → AllLeft (c ∷ cs)
 left p q = check (λ _. p) (λ _. q)
 
-first-left : (cs : List Check) (r : Refusal) → AllLeft cs → firstRefusal cs ≡ some r → Left r
+first-left : (cs : List Check) (r : ℕ) → AllLeft cs → firstRefusal cs ≡ some r → Left r
 unfolding firstRefusal
 first-left [] r end e = absurd (Option·some-ne-none r (sym e))
 first-left (c ∷ cs) r (check here later) e = go (test (c .fails)) (first-left cs r)
@@ -74,18 +70,18 @@ first-left (c ∷ cs) r (check here later) e = go (test (c .fails)) (first-left 
     go (fails f) rest = rest (later f) (rw f at e)
 
 -- an effect is not refused, so a refused step is refused by its first check that fails
-refused-by : (s : GlobalState) (x : Step) (st : List ℕ) (budget : ℕ) (r : Refusal)
-    → answer s x st budget .outcome ≡ Refused r
+refused-by : (s : GlobalState) (x : Step) (st : List ℕ) (budget : ℕ) (r : ℕ)
+    → answer s x st budget .outcome ≡ refused r
     → firstRefusal (stepChecks s (length st) x) ≡ some r
 unfolding answer step resultOf quietly accepted
 refused-by s x st budget r e = go (firstRefusal (stepChecks s (length st) x)) (power-cases budget s st _) e
   where
-    go : (o : Option Refusal) → Powered budget s st (resultOf o s x)
-        → underBudget budget s st (resultOf o s x) .outcome ≡ Refused r → o ≡ some r
-    go none (lost l q) f = let z : PowerLost ≡ Refused r = rw q at f in cc
+    go : (o : Option ℕ) → Powered budget s st (resultOf o s x)
+        → underBudget budget s st (resultOf o s x) .outcome ≡ refused r → o ≡ some r
+    go none (lost l q) f = let z : cut ≡ refused r = rw q at f in cc
     go none (lasts l q) f = true-is-not-false (effect-accepted s x) (ap accepted (rw q at f))
-    go (some r′) (lost l q) f = let z : PowerLost ≡ Refused r = rw q at f in cc
-    go (some r′) (lasts l q) f = let z : Refused r′ ≡ Refused r = rw q at f in cc
+    go (some r′) (lost l q) f = let z : cut ≡ refused r = rw q at f in cc
+    go (some r′) (lasts l q) f = let z : refused r′ ≡ refused r = rw q at f in cc
 
 -- 14: a message closes no channel, and where a marker is first in the logical phase its channel isn't closed
 message-open : (ph : Phase) (c r : ℕ) (logical tag : Bool) (b : ℕ) (t : Bool)
@@ -132,14 +128,14 @@ module _ (s : GlobalState) (st : List ℕ) (h : History) (fit : sound s ≡ true
 
 -- soundness lasts over the calls
 call-sound : (T : Topology) (w : World) → sound (w .state) ≡ true → (c : Call) → sound (next T w c .state) ≡ true
-unfolding next stateAfter startedState
+unfolding next stateAfter stateOr
 call-sound T w h (call x budget) = answer-sound (w .state) x (w .store) budget h
-call-sound T w h recovery = go (recover T (w .store) .start) refl
+call-sound T w h recovery = go (recover T (w .store) .refusal) refl
   where
-    go : (r : Start) → recover T (w .store) .start ≡ r
-        → sound (startedState r (recover T (w .store) .state) (w .state)) ≡ true
-    go start.Ready e = recover-sound T (w .store) e
-    go (start.Refused r) e = h
+    go : (o : Option ℕ) → recover T (w .store) .refusal ≡ o
+        → sound (stateOr o (recover T (w .store) .state) (w .state)) ≡ true
+    go none e = recover-sound T (w .store) e
+    go (some n) e = h
 
 run-sound : (T : Topology) (w : World) → sound (w .state) ≡ true → (calls : List Call)
     → sound (run T w calls .state) ≡ true
@@ -155,7 +151,7 @@ reached T store ready calls =
     record {
       sound = fit;
       steps = λ x budget r e.
-          in-range (refusalNumber r)
+          in-range r
           (first-left (stepChecks (w .state) (length (w .store)) x) r
           (step-left (w .state) (w .store) (w .history) fit (end-holds T store ready calls .holds) x)
           (refused-by (w .state) x (w .store) budget r e));

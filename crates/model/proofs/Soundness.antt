@@ -1,7 +1,7 @@
 -- No call makes a state unsound: a step, whatever its budget, keeps soundness (`step-sound`, `answer-sound`), and an
 -- accepted initialize or recover gives a sound state (`initialize-sound`, `recover-sound`).
 use Prim.Native.Nat.{ℕ, _+_, _<_, _≤_}
-use mathlib.Core.Path.{_≡_, refl, ap, _∙_}
+use mathlib.Core.Path.{_≡_, refl, sym, ap, _∙_}
 use mathlib.Core.Bool.{Bool, true, false, cond, not, _||_, Bool·beq}
 use mathlib.Core.List.{List, [], _∷_, _++_}
 use mathlib.Core.Option.{none}
@@ -17,7 +17,6 @@ use Rattle.model.specs.declared.Entry.the-variants.{Message, Marker}
 use Rattle.model.specs.declared.Step.{Step}
 use Rattle.model.specs.declared.Step.the-variants.{Send, Receive, Begin, PhysicalCheckpoint}
 use Rattle.model.specs.declared.Step.the-variants.{LogicalCheckpoint, SendMarker, Commit, Abort}
-use Rattle.model.specs.declared.Start.the-variants.{Ready}
 use Rattle.model.specs.Notation.{upd, allBelow}
 use Rattle.model.specs.Topology.{receiver, hasProcess, hasChannel, topologyRefusal}
 use Rattle.model.specs.Channel.{channelRoom, bodies, messages, noRoom, noRoomForMessage, noRoomForMarker}
@@ -42,9 +41,9 @@ use Rattle.model.proofs.laws.ChannelLaws.{bodies-length}
 use Rattle.model.proofs.laws.TopologyLaws.{accepted-sizes}
 use Rattle.model.proofs.laws.SoundLaws.{Fits, Sound, sound-facts, facts-sound, entries-fit}
 use Rattle.model.proofs.laws.Passing.{passed}
-use Rattle.model.proofs.laws.Calls.{Accepted, Stepped, refused, passes, step-cases, Powered, lost, lasts}
+use Rattle.model.proofs.laws.Calls.{Accepted, Stepped, stopped, passes, step-cases, Powered, lost, lasts}
 use Rattle.model.proofs.laws.Calls.{power-cases}
-use Rattle.model.proofs.laws.Calls.{ready}
+use Rattle.model.proofs.laws.Calls.{initialize-refusal, recover-refusal}
 use Rattle.model.proofs.store.Sizes.{admitted}
 
 -- every planned channel's entries are within its room
@@ -228,7 +227,7 @@ unfolding quietly
 step-sound s cells x h = go (step-cases s cells x)
   where
     go : Stepped s cells x → sound (step s cells x .state) ≡ true
-    go (refused r e) = rw e h
+    go (stopped r e) = rw e h
     go (passes a e) = rw e (facts-sound (effect s x .state) (effect-sound s cells x a (sound-facts s h)))
 
 pub answer-sound : (s : GlobalState) (x : Step) (store : List ℕ) (budget : ℕ) → sound s ≡ true
@@ -253,11 +252,11 @@ idle-sound T k word channel e l =
     none-counted (messageLog p) l = omega arith
     none-counted (channelLog c) l = omega arith
 
-pub initialize-sound : (T : Topology) (store : List ℕ) → initialize T store .start ≡ Ready
+pub initialize-sound : (T : Topology) (store : List ℕ) → initialize T store .refusal ≡ none
     → sound (initialize T store .state) ≡ true
 unfolding initialize startupOr
 initialize-sound T store e =
-    let n : initializeRefusal T (length store) ≡ none = ready (initializeRefusal T (length store)) _ _ _ e in
+    let n : initializeRefusal T (length store) ≡ none = sym (initialize-refusal T store) ∙ e in
     rw n (idle-sound T 0 (λ p. 0) (λ c. []) (admitted T (length store) n .0) (λ c l. omega arith))
 
 -- a channel filled from its log is as long as the log's count, which fits
@@ -267,11 +266,11 @@ recovered-length T store e c l =
     rw (lt-ltb c (T .channels) l, length-map, tabulate-length)
     (leb-true _ _ (all-at (T .channels) _ (and-right (allBelow (T .processes) _) _ e) c l))
 
-pub recover-sound : (T : Topology) (store : List ℕ) → recover T store .start ≡ Ready
+pub recover-sound : (T : Topology) (store : List ℕ) → recover T store .refusal ≡ none
     → sound (recover T store .state) ≡ true
 unfolding recover recoverRefusal startupOr
 recover-sound T store e =
-    let n : recoverRefusal T store ≡ none = ready (recoverRefusal T store) _ _ _ e in
+    let n : recoverRefusal T store ≡ none = sym (recover-refusal T store) ∙ e in
     let (first, fits) = or-else-none (initializeRefusal T (length store)) _ n in
     rw n
     (idle-sound T (storedLine store) (recoveredWord T store) (recoveredChannel T store)

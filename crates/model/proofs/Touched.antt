@@ -14,7 +14,6 @@ use Rattle.model.specs.declared.Phase.{Phase}
 use Rattle.model.specs.declared.Phase.the-variants.{Idle, Physical, Logical}
 use Rattle.model.specs.declared.Entry.{Entry}
 use Rattle.model.specs.declared.Entry.the-variants.{Message, Marker}
-use Rattle.model.specs.declared.Refusal.{Refusal}
 use Rattle.model.specs.declared.Step.{Step}
 use Rattle.model.specs.declared.Step.the-variants.{Send, Receive, Begin, PhysicalCheckpoint}
 use Rattle.model.specs.declared.Step.the-variants.{LogicalCheckpoint, SendMarker, Commit, Abort}
@@ -33,7 +32,7 @@ use Rattle.model.specs.Extent.{InStore, Untouched}
 use Rattle.model.proofs.laws.Tests.{either, or-left, or-right}
 use Rattle.model.proofs.laws.TopologyLaws.{Planned, receiver-planned}
 use Rattle.model.proofs.laws.SoundLaws.{sound-facts}
-use Rattle.model.proofs.laws.Calls.{Accepted, Stepped, refused, passes, step-cases}
+use Rattle.model.proofs.laws.Calls.{Accepted, Stepped, stopped, passes, step-cases}
 use Rattle.model.proofs.store.Writes.{Each, each-append, each-map, each-concat, each-tabulate, each-take, kept}
 use Rattle.model.proofs.store.Sizes.{Sized, sized-topology, admitted}
 use Rattle.model.proofs.store.Addresses.{Within, physical-within, count-within}
@@ -125,7 +124,7 @@ unfolding quietly
 step-below s cells x = go (step-cases s cells x)
   where
     go : Stepped s cells x → Below (step s cells x .writes)
-    go (refused r e) = rw e tt
+    go (stopped r e) = rw e tt
     go (passes a e) = rw e (effect-below s cells x a)
 
 initialize-below : (T : Topology) → topologyRefusal T ≡ none → Below (initializeWrites T)
@@ -165,7 +164,7 @@ untouched =
       initializes = λ T store a l. started T store a l _ (initializeRefusal T (length store)) refl;
     }
   where
-    started : (T : Topology) (store : List ℕ) (a : ℕ) → storeCells ≤ a → (s : GlobalState) (o : Option Refusal)
+    started : (T : Topology) (store : List ℕ) (a : ℕ) → storeCells ≤ a → (s : GlobalState) (o : Option ℕ)
         → initializeRefusal T (length store) ≡ o
         → cell (startupOr o s (writeAll store (initializeWrites T)) store .store) a ≡ cell store a
     started T store a l s none e =

@@ -11,15 +11,12 @@ use Rattle.model.specs.declared.Record.{Record}
 use Rattle.model.specs.declared.Record.the-variants as records
 use Rattle.model.specs.declared.Step.{Step}
 use Rattle.model.specs.declared.Step.the-variants.{Begin, Commit, Abort}
-use Rattle.model.specs.declared.Outcome.{Outcome}
-use Rattle.model.specs.declared.Outcome.the-variants.{Done, Received, ReceivedMarker, Refused, PowerLost}
-use Rattle.model.specs.declared.Refusal.the-variants.{Malformed}
 use Rattle.model.specs.Notation.{tabulate, concatBelow}
 use Rattle.model.specs.Word.{enter, replay}
 use Rattle.model.specs.Layout.{storeCells}
 use Rattle.model.specs.Write.{Answered}
 use Rattle.model.specs.Step.{answer}
-use Rattle.model.specs.Outcome.{outcomeValues, refusalNumber}
+use Rattle.model.specs.Outcome as says
 use Rattle.model.specs.Record.{Reading, fieldsOf, readRecord}
 use Rattle.model.specs.Program as program
 use Rattle.model.specs.Run.{Call, call, recovery, World, run, firstWorld}
@@ -54,20 +51,17 @@ powerLost = 0x70
 abbrev pub message : ℕ
 message = 0x6D
 
-unfoldable pub outcomeWord : Outcome → ℕ
-outcomeWord Done = done
-outcomeWord (Received body) = took
-outcomeWord ReceivedMarker = note
-outcomeWord (Refused r) = refused
-outcomeWord PowerLost = powerLost
-
-unfoldable pub saidNumbers : program.Said → List ℕ
-saidNumbers (program.outcome o) = outcomeWord o ∷ outcomeValues o
-saidNumbers (program.line n) = line ∷ n ∷ []
+unfoldable pub saidWord : says.Said → ℕ
+saidWord says.done = done
+saidWord (says.took body) = took
+saidWord says.note = note
+saidWord (says.line k) = line
+saidWord (says.refused n) = refused
+saidWord says.cut = powerLost
 
 -- "Each line has step number, outcome, stores made."
 unfoldable pub lineNumbers : program.Line → List ℕ
-lineNumbers l = l .number ∷ saidNumbers (l .said) ++ (l .made ∷ [])
+lineNumbers l = l .number ∷ saidWord (l .said) ∷ says.saidValues (l .said) ++ (l .made ∷ [])
 
 -- a line for each of these, which are numbered from n on
 unfoldable pub numbered : {A : Type 0} → (ℕ → A → List ℕ) → ℕ → List A → List (List ℕ)
@@ -76,7 +70,7 @@ numbered f n (x ∷ xs) = f n x ∷ numbered f (n + 1) xs
 
 -- "Last come each board with its word, and each wire with its message count and bodies."
 unfoldable pub outputNumbers : program.Output → List (List ℕ)
-outputNumbers (program.planRefused r) = (refused ∷ refusalNumber r ∷ []) ∷ []
+outputNumbers (program.planRefused n) = (refused ∷ n ∷ []) ∷ []
 outputNumbers (program.ran lines words channels) =
     map lineNumbers lines
     ++ numbered (λ p word. board ∷ p ∷ word ∷ []) 0 words
@@ -138,7 +132,7 @@ answerIn w x budget = answer (w .state) x (w .store) budget
 
 -- an answer as line n
 unfoldable pub answerLine : ℕ → Answered → List ℕ
-answerLine n a = lineNumbers (record { number = n; said = program.outcome (a .outcome); made = a .made })
+answerLine n a = lineNumbers (record { number = n; said = a .outcome; made = a .made })
 
 -- an answer as line n, and what the program prints if then come a restart and the end
 unfoldable pub thenRecover : ℕ → Answered → List (List ℕ)
@@ -167,7 +161,7 @@ thenTags n a =
 
 -- what is read: kind, process, channel, body, and the rest of the bytes
 unfoldable pub readingNumbers : Reading Record → List ℕ
-readingNumbers none = refused ∷ refusalNumber Malformed ∷ []
+readingNumbers none = refused ∷ 7 ∷ []
 readingNumbers (some r) =
     fieldsOf (r .0) .kind ∷ fieldsOf (r .0) .process ∷ fieldsOf (r .0) .channel ∷ fieldsOf (r .0) .body ∷ r .1
 

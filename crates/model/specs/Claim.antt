@@ -4,17 +4,15 @@ use Prim.Native.Nat.{ℕ, _<_, _≤_}
 use mathlib.Core.Path.{_≡_}
 use mathlib.Core.Bool.{true}
 use mathlib.Core.List.{List, _++_}
+use mathlib.Core.Option.{none}
 use Rattle.model.specs.declared.Topology.{Topology}
 use Rattle.model.specs.declared.Phase.the-variants.{Idle}
-use Rattle.model.specs.declared.Start.the-variants.{Ready}
 use Rattle.model.specs.declared.Step.{Step}
-use Rattle.model.specs.declared.Outcome.the-variants.{Refused}
-use Rattle.model.specs.declared.Refusal.{Refusal}
 use Rattle.model.specs.Word.{replay}
 use Rattle.model.specs.Topology.{sender, receiver}
 use Rattle.model.specs.Channel.{bodies, markerless}
 use Rattle.model.specs.Sound.{sound}
-use Rattle.model.specs.Outcome.{refusalNumber}
+use Rattle.model.specs.Outcome.{refused}
 use Rattle.model.specs.Step.{answer}
 use Rattle.model.specs.Start.{Startup, initialize, recover}
 use Rattle.model.specs.History.{History, sent, received, bodiesOn, receivedBodies, onRecover}
@@ -23,7 +21,7 @@ use Rattle.model.specs.Run.{Call, World, run, firstWorld}
 -- What recover answers (r), with the histories as this recover leaves them (h) and the number of accepted commits.
 pub record Recovered (T : Topology) (r : Startup) (h : History) (commits : ℕ) : Type 0 where
   -- a restart after the list is never refused, and
-  pub accepted : r .start ≡ Ready
+  pub accepted : r .refusal ≡ none
   -- "gives an idle state whose line number is the number of accepted finishes."
   pub idle : r .state .round .phase ≡ Idle
   pub line : r .state .round .line ≡ commits
@@ -44,7 +42,7 @@ RecoveredAfter T w = Recovered T (recover T (w .store)) (onRecover (w .history))
 -- It has no premise on what comes after a lost power: the claim holds for every list (docs/DECISIONS.md, 11).
 abbrev pub Demand3 : Type 0
 Demand3 =
-    (T : Topology) (store : List ℕ) → initialize T store .start ≡ Ready → (calls : List Call)
+    (T : Topology) (store : List ℕ) → initialize T store .refusal ≡ none → (calls : List Call)
     → RecoveredAfter T (run T (firstWorld T store) calls)
 
 -- What a world reached by such a list is like.
@@ -52,13 +50,13 @@ pub record Reached (T : Topology) (w : World) : Type 0 where
   -- Its state is sound.
   pub sound : sound (w .state) ≡ true
   -- A step, whatever it is and whatever its budget, is refused with 8 to 13 alone: 15, 6 and 14 never come up.
-  pub steps : (x : Step) (budget : ℕ) (r : Refusal) → answer (w .state) x (w .store) budget .outcome ≡ Refused r
-      → (8 ≤ refusalNumber r) × (refusalNumber r ≤ 13)
+  pub steps : (x : Step) (budget n : ℕ) → answer (w .state) x (w .store) budget .outcome ≡ refused n
+      → (8 ≤ n) × (n ≤ 13)
   -- A recover is not refused at all: 16 never comes up.
-  pub recovers : recover T (w .store) .start ≡ Ready
+  pub recovers : recover T (w .store) .refusal ≡ none
 
 -- The companion of demand 3, under the same premises.
 abbrev pub Demand3Companion : Type 0
 Demand3Companion =
-    (T : Topology) (store : List ℕ) → initialize T store .start ≡ Ready → (calls : List Call)
+    (T : Topology) (store : List ℕ) → initialize T store .refusal ≡ none → (calls : List Call)
     → Reached T (run T (firstWorld T store) calls)

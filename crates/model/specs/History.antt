@@ -10,11 +10,9 @@ use Rattle.model.specs.declared.Topology.{Topology}
 use Rattle.model.specs.declared.Step.{Step}
 use Rattle.model.specs.declared.Step.the-variants.{Send, Receive, Begin, PhysicalCheckpoint, LogicalCheckpoint}
 use Rattle.model.specs.declared.Step.the-variants.{SendMarker, Commit, Abort}
-use Rattle.model.specs.declared.Outcome.{Outcome}
-use Rattle.model.specs.declared.Outcome.the-variants.{Done, Received, ReceivedMarker, Refused, PowerLost}
 use Rattle.model.specs.Notation.{upd}
 use Rattle.model.specs.Topology.{sender, receiver}
-use Rattle.model.specs.Outcome.{accepted}
+use Rattle.model.specs.Outcome.{Said, done, took, note, line, refused, cut, accepted}
 
 -- "entries are sends and takes with wire and body"
 pub data Direction : Type 0 where
@@ -101,12 +99,13 @@ onMessage T c b h =
     (cond (sentAfterMark T c h) (markUnmarked (h .mark (receiver T c)) (receiver T c) h) h)
 
 -- "Take giving a body", "Take giving a note: a receiver without a mark of this round is marked. No entry."
-unfoldable pub onReceive : Topology → ℕ → Outcome → History → History
-onReceive T c Done h = h
-onReceive T c (Received b) h = onMessage T c b h
-onReceive T c ReceivedMarker h = markUnmarked (h .mark (receiver T c)) (receiver T c) h
-onReceive T c (Refused r) h = h
-onReceive T c PowerLost h = h
+unfoldable pub onReceive : Topology → ℕ → Said → History → History
+onReceive T c done h = h
+onReceive T c (took b) h = onMessage T c b h
+onReceive T c note h = markUnmarked (h .mark (receiver T c)) (receiver T c) h
+onReceive T c (line k) h = h
+onReceive T c (refused n) h = h
+onReceive T c cut h = h
 
 -- the place of p's mark in a line, where the round has one
 unfoldable pub markOr : Option ℕ → ℕ → ℕ
@@ -123,7 +122,7 @@ unfoldable pub onRecover : History → History
 onRecover h = record { events = λ p. take (h .line p) (h .events p); line = h .line; mark = λ p. none }
 
 -- what an accepted step does to the histories
-unfoldable pub onAccepted : Topology → Step → Outcome → History → History
+unfoldable pub onAccepted : Topology → Step → Said → History → History
 -- "Send: it enters the sender's book."
 onAccepted T (Send c b) o h = addEvent (sender T c) (record { direction = sent; channel = c; body = b }) h
 onAccepted T (Receive c) o h = onReceive T c o h
@@ -139,5 +138,5 @@ onAccepted T Abort o h = noMarks h
 
 -- "They are fed every call with its arguments and, of its answer, whether it was accepted (neither refused nor cut) and
 -- whether a take gave a note or a body, and which body." "every refused or cut call: nothing"
-unfoldable pub onStep : Topology → Step → Outcome → History → History
+unfoldable pub onStep : Topology → Step → Said → History → History
 onStep T x o h = cond (accepted o) (onAccepted T x o h) h

@@ -1,5 +1,6 @@
 -- Document 01 as definitions, in its order. What a reader must believe is here; what is proved of it is in proofs/.
 pub mod Notation
+pub mod Outcome
 pub mod Check
 pub mod Word
 pub mod Topology
@@ -13,7 +14,6 @@ pub mod Change
 pub mod Receive
 pub mod Step
 pub mod Start
-pub mod Outcome
 pub mod Record
 pub mod Program
 pub mod History

@@ -1,16 +1,49 @@
--- Document 01's numbers and values for the answers that the code gives as enums.
+-- What an answer says, in document 01's words and numbers, and what each case of the enums that the code answers with
+-- says. Definitions speak of what is said, and every promise about such an enum goes through what its case says.
 use Prim.Native.Nat.{ℕ}
 use mathlib.Core.Bool.{Bool, true, false}
 use mathlib.Core.List.{List, [], _∷_}
+use mathlib.Core.Option.{Option, none, some}
 use Rattle.model.specs.declared.Outcome.{Outcome}
-use Rattle.model.specs.declared.Outcome.the-variants.{Done, Received, ReceivedMarker, Refused, PowerLost}
+use Rattle.model.specs.declared.Outcome.the-variants as outcome
+use Rattle.model.specs.declared.Start.{Start}
+use Rattle.model.specs.declared.Start.the-variants as start
+use Rattle.model.specs.declared.Verdict.{Verdict}
+use Rattle.model.specs.declared.Verdict.the-variants.{Pass, Refuse}
 use Rattle.model.specs.declared.Refusal.{Refusal}
 use Rattle.model.specs.declared.Refusal.the-variants.{ProcessCount, ChannelCount, UnknownEnd, SelfChannel}
 use Rattle.model.specs.declared.Refusal.the-variants.{DoubledChannel, ShortStore, Malformed, NoSuch, ChannelFull}
 use Rattle.model.specs.declared.Refusal.the-variants.{ChannelEmpty, LogFull, NotNow, LastLine, MarkerOnClosed}
 use Rattle.model.specs.declared.Refusal.the-variants.{Unsound, BadCount}
 
--- "Turned down, by who causes it"
+-- "Outcomes: `done`; `took` and body; `note`; `line` and its number for a restart; `refused` and number", and "cut"
+pub data Said : Type 0 where
+  done : Said
+  took : ℕ → Said
+  note : Said
+  line : ℕ → Said
+  refused : ℕ → Said
+  cut : Said
+
+-- the values that are said
+unfoldable pub saidValues : Said → List ℕ
+saidValues done = []
+saidValues (took body) = body ∷ []
+saidValues note = []
+saidValues (line k) = k ∷ []
+saidValues (refused n) = n ∷ []
+saidValues cut = []
+
+-- "accepted (neither refused nor cut)"
+unfoldable pub accepted : Said → Bool
+accepted done = true
+accepted (took body) = true
+accepted note = true
+accepted (line k) = true
+accepted (refused n) = false
+accepted cut = false
+
+-- "Turned down, by who causes it": document 01's number of each refusal of the code
 abbrev pub refusalNumber : Refusal → ℕ
 refusalNumber ProcessCount = 1
 refusalNumber ChannelCount = 2
@@ -29,18 +62,19 @@ refusalNumber MarkerOnClosed = 14
 refusalNumber Unsound = 15
 refusalNumber BadCount = 16
 
--- the values that an outcome is printed with: "`took` and body", "`refused` and number"
-unfoldable pub outcomeValues : Outcome → List ℕ
-outcomeValues Done = []
-outcomeValues (Received body) = body ∷ []
-outcomeValues ReceivedMarker = []
-outcomeValues (Refused r) = refusalNumber r ∷ []
-outcomeValues PowerLost = []
+-- what a step's outcome says
+abbrev pub saidBy : Outcome → Said
+saidBy outcome.Done = done
+saidBy (outcome.Received body) = took body
+saidBy outcome.ReceivedMarker = note
+saidBy (outcome.Refused r) = refused (refusalNumber r)
+saidBy outcome.PowerLost = cut
 
--- "accepted (neither refused nor cut)"
-unfoldable pub accepted : Outcome → Bool
-accepted Done = true
-accepted (Received body) = true
-accepted ReceivedMarker = true
-accepted (Refused r) = false
-accepted PowerLost = false
+-- the number that a verdict, an initialize or a recover refuses with, if it does
+unfoldable pub refusalOf : Verdict → Option ℕ
+refusalOf Pass = none
+refusalOf (Refuse r) = some (refusalNumber r)
+
+abbrev pub startRefusal : Start → Option ℕ
+startRefusal start.Ready = none
+startRefusal (start.Refused r) = some (refusalNumber r)

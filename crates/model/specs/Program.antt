@@ -9,13 +9,8 @@ use lib.Dec.{ltb}
 use Rattle.model.specs.declared.Topology.{Topology}
 use Rattle.model.specs.declared.Record.{Record}
 use Rattle.model.specs.declared.Record.the-variants.{Call, Recover}
-use Rattle.model.specs.declared.Outcome.{Outcome}
-use Rattle.model.specs.declared.Outcome.the-variants.{Refused}
-use Rattle.model.specs.declared.Start.{Start}
-use Rattle.model.specs.declared.Start.the-variants as start
-use Rattle.model.specs.declared.Refusal.{Refusal}
-use Rattle.model.specs.declared.Refusal.the-variants.{Malformed}
 use Rattle.model.specs.Notation.{tabulate, orElse}
+use Rattle.model.specs.Outcome.{Said, refused}
 use Rattle.model.specs.Check.{_⇒_, firstRefusal}
 use Rattle.model.specs.Topology.{channelLimit, topologyRefusal, sizeRefusal}
 use Rattle.model.specs.Channel.{bodies}
@@ -23,7 +18,7 @@ use Rattle.model.specs.Layout.{storeCells}
 use Rattle.model.specs.State.{GlobalState}
 use Rattle.model.specs.Write.{Answered}
 use Rattle.model.specs.Step.{answer}
-use Rattle.model.specs.Start.{Startup, initialize, recover}
+use Rattle.model.specs.Start.{Startup, initialize, recover, recoverSaid, stateOr}
 use Rattle.model.specs.Record.{Reading, andThen, readBody, readRecord}
 
 -- "the first 65,536 bytes of standard input and no more"
@@ -47,14 +42,14 @@ unfoldable pub planLength : List ℕ → ℕ
 planLength bytes = 2 + 2 * getD bytes 1 0
 
 -- "The plan's checks run: under two bytes 7; 1; 2; wires broken off 7;": what its sizes tell
-unfoldable pub shapeRefusal : List ℕ → Option Refusal
+unfoldable pub shapeRefusal : List ℕ → Option ℕ
 shapeRefusal bytes =
-    orElse (firstRefusal ((ltb (length bytes) 2 ⇒ Malformed) ∷ []))
+    orElse (firstRefusal ((ltb (length bytes) 2 ⇒ 7) ∷ []))
     (orElse (sizeRefusal (getD bytes 0 0) (getD bytes 1 0))
-    (firstRefusal ((ltb (length bytes) (planLength bytes) ⇒ Malformed) ∷ [])))
+    (firstRefusal ((ltb (length bytes) (planLength bytes) ⇒ 7) ∷ [])))
 
 -- then "3 to 5", for which the topology's checks stand
-unfoldable pub planRefusal : List ℕ → Option Refusal
+unfoldable pub planRefusal : List ℕ → Option ℕ
 planRefusal bytes = orElse (shapeRefusal bytes) (topologyRefusal (planOf bytes))
 
 -- "runs with full current": more writes than any step makes
@@ -81,11 +76,6 @@ readRequest source bytes =
     andThen (readBudget source bytes) λ budget rest.
     andThen (readRecord rest) λ r after.
     some (record { content = r; budget = budget }, after)
-
--- "`line` and its number for a restart", or a step's outcome
-pub data Said : Type 0 where
-  outcome : Outcome → Said
-  line : ℕ → Said
 
 -- "Each line has step number, outcome, stores made."
 pub record Line : Type 0 where
@@ -117,16 +107,16 @@ pub record Served : Type 0 where
 
 -- a step's answer
 unfoldable pub ofAnswer : Answered → Served
-ofAnswer a = record { said = outcome (a .outcome); made = a .made; state = a .state; store = a .store }
+ofAnswer a = record { said = a .outcome; made = a .made; state = a .state; store = a .store }
 
 -- a recover's: its line number and the state at that line; or its refusal, and the state is kept
-unfoldable pub ofStartup : Start → Startup → GlobalState → Served
-ofStartup start.Ready r s = record { said = line (r .state .round .line); made = 0; state = r .state; store = r .store }
-ofStartup (start.Refused x) r s = record { said = outcome (Refused x); made = 0; state = s; store = r .store }
+unfoldable pub ofStartup : Startup → GlobalState → Served
+ofStartup r s =
+    record { said = recoverSaid r; made = 0; state = stateOr (r .refusal) (r .state) s; store = r .store }
 
 unfoldable pub serve : Topology → GlobalState → List ℕ → ℕ → Record → Served
 serve T s store budget (Call x) = ofAnswer (answer s x store budget)
-serve T s store budget Recover = ofStartup (recover T store .start) (recover T store) s
+serve T s store budget Recover = ofStartup (recover T store) s
 
 -- the lines printed, and the state and the store after the last of them
 pub record Session : Type 0 where
@@ -145,7 +135,7 @@ lineThen n x more =
 
 -- the last line, where the bytes broke off: "a 7 ends the reading after such a line with 0 stores"
 unfoldable pub brokenLine : Bool → ℕ → List Line
-brokenLine true n = record { number = n; said = outcome (Refused Malformed); made = 0 } ∷ []
+brokenLine true n = record { number = n; said = refused 7; made = 0 } ∷ []
 brokenLine false n = []
 
 -- n: the number of the next line
@@ -166,7 +156,7 @@ sessionOf source T store bytes = sessionFrom source T 1 (initialize T store .sta
 
 -- "Last come each board with its word, and each wire with its message count and bodies."
 pub data Output : Type 0 where
-  planRefused : Refusal → Output
+  planRefused : ℕ → Output
   ran : List Line → List ℕ → List (List ℕ) → Output
 
 unfoldable pub report : Topology → Session → Output
@@ -180,8 +170,8 @@ pub record Played : Type 0 where
   pub store : List ℕ
 
 -- "It prints `plan refused n` and stops, or runs": on this store, with budgets from this source
-unfoldable pub playedOf : Option Refusal → BudgetSource → List ℕ → List ℕ → Played
-playedOf (some r) source store bytes = record { output = planRefused r; store = store }
+unfoldable pub playedOf : Option ℕ → BudgetSource → List ℕ → List ℕ → Played
+playedOf (some n) source store bytes = record { output = planRefused n; store = store }
 playedOf none source store bytes =
     let s : Session = sessionOf source (planOf bytes) store (drop (planLength bytes) bytes) in
     record { output = report (planOf bytes) s; store = s .store }

@@ -6,14 +6,10 @@ use Rattle.model.specs.declared.Topology.{Topology}
 use Rattle.model.specs.declared.Step.{Step}
 use Rattle.model.specs.declared.Step.the-variants.{Send, Receive, Begin, PhysicalCheckpoint}
 use Rattle.model.specs.declared.Step.the-variants.{LogicalCheckpoint, SendMarker, Commit, Abort}
-use Rattle.model.specs.declared.Outcome.{Outcome}
-use Rattle.model.specs.declared.Outcome.the-variants as outcome
-use Rattle.model.specs.declared.Start.{Start}
-use Rattle.model.specs.declared.Start.the-variants.{Ready, Refused}
 use Rattle.model.specs.State.{GlobalState}
-use Rattle.model.specs.Outcome.{accepted}
+use Rattle.model.specs.Outcome.{Said, accepted}
 use Rattle.model.specs.Step.{answer}
-use Rattle.model.specs.Start.{Startup, initialize, recover}
+use Rattle.model.specs.Start.{Startup, initialize, recover, recoverSaid, stateOr}
 use Rattle.model.specs.History.{History, newHistory, onStep, onRecover}
 
 -- a call: a step with its budget, or a recover. The arguments are any natural numbers.
@@ -39,18 +35,14 @@ isCommit Commit = true
 isCommit Abort = false
 
 -- one more, where a commit was accepted
-unfoldable pub countCommit : Step → Outcome → ℕ → ℕ
+unfoldable pub countCommit : Step → Said → ℕ → ℕ
 countCommit x o n = cond (isCommit x) (cond (accepted o) (n + 1) n) n
 
--- What a call was answered: its outcome and the writes made. A recover that is ready is done, and makes none.
+-- What a call was answered: what the answer says, and the writes made. A recover makes none.
 pub record Reply : Type 0 where
   pub call : Call
-  pub outcome : Outcome
+  pub outcome : Said
   pub made : ℕ
-
-unfoldable pub startOutcome : Start → Outcome
-startOutcome Ready = outcome.Done
-startOutcome (Refused r) = outcome.Refused r
 
 unfoldable pub replyTo : Topology → World → Call → Reply
 replyTo T w (call x budget) =
@@ -59,11 +51,10 @@ replyTo T w (call x budget) =
       outcome = answer (w .state) x (w .store) budget .outcome;
       made = answer (w .state) x (w .store) budget .made;
     }
-replyTo T w recovery =
-    record { call = recovery; outcome = startOutcome (recover T (w .store) .start); made = 0 }
+replyTo T w recovery = record { call = recovery; outcome = recoverSaid (recover T (w .store)); made = 0 }
 
 -- the histories after a call with this outcome
-unfoldable pub onCall : Topology → Call → Outcome → History → History
+unfoldable pub onCall : Topology → Call → Said → History → History
 onCall T (call x budget) o h = onStep T x o h
 onCall T recovery o h = cond (accepted o) (onRecover h) h
 
@@ -71,19 +62,14 @@ onCall T recovery o h = cond (accepted o) (onRecover h) h
 unfoldable pub onReply : Topology → Reply → History → History
 onReply T r h = onCall T (r .call) (r .outcome) h
 
-unfoldable pub commitsAfter : Call → Outcome → ℕ → ℕ
+unfoldable pub commitsAfter : Call → Said → ℕ → ℕ
 commitsAfter (call x budget) o n = countCommit x o n
 commitsAfter recovery o n = n
-
--- the state after a recover: its own, or the state as it was where it is refused
-unfoldable pub startedState : Start → GlobalState → GlobalState → GlobalState
-startedState Ready after before = after
-startedState (Refused r) after before = before
 
 unfoldable pub stateAfter : Topology → World → Call → GlobalState
 stateAfter T w (call x budget) = answer (w .state) x (w .store) budget .state
 stateAfter T w recovery =
-    let r : Startup = recover T (w .store) in startedState (r .start) (r .state) (w .state)
+    let r : Startup = recover T (w .store) in stateOr (r .refusal) (r .state) (w .state)
 
 -- recover "only reads"
 unfoldable pub storeAfter : Topology → World → Call → List ℕ

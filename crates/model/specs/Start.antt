@@ -8,11 +8,8 @@ use lib.ListN.{length}
 use lib.Dec.{leb, ltb}
 use Rattle.model.specs.declared.Topology.{Topology}
 use Rattle.model.specs.declared.Entry.{Entry}
-use Rattle.model.specs.declared.Start.{Start}
-use Rattle.model.specs.declared.Start.the-variants.{Ready, Refused}
-use Rattle.model.specs.declared.Refusal.{Refusal}
-use Rattle.model.specs.declared.Refusal.the-variants.{ShortStore, BadCount}
 use Rattle.model.specs.Notation.{tabulate, concatBelow, allBelow, orElse}
+use Rattle.model.specs.Outcome.{Said, line, refused}
 use Rattle.model.specs.Check.{_⇒_, firstRefusal}
 use Rattle.model.specs.Word.{replay}
 use Rattle.model.specs.Topology.{topologyRefusal, hasProcess, hasChannel}
@@ -22,19 +19,20 @@ use Rattle.model.specs.Layout.{countCell, entriesBy, logged}
 use Rattle.model.specs.State.{GlobalState, idleState, blankState}
 use Rattle.model.specs.Write.{Write, writeAll, commitWrites}
 
--- what initialize and recover answer, and what they leave in the store
+-- what initialize and recover answer, with the number that they are refused with, if they are, and what they leave in
+-- the store
 pub record Startup : Type 0 where
-  pub start : Start
+  pub refusal : Option ℕ
   pub state : GlobalState
   pub store : List ℕ
 
-unfoldable pub startupOr : Option Refusal → GlobalState → List ℕ → List ℕ → Startup
-startupOr none s after before = record { start = Ready; state = s; store = after }
-startupOr (some r) s after before = record { start = Refused r; state = blankState; store = before }
+unfoldable pub startupOr : Option ℕ → GlobalState → List ℕ → List ℕ → Startup
+startupOr none s after before = record { refusal = none; state = s; store = after }
+startupOr (some n) s after before = record { refusal = some n; state = blankState; store = before }
 
 -- 1 to 5, then "6 store under 3,265 cells."
-unfoldable pub initializeRefusal : Topology → ℕ → Option Refusal
-initializeRefusal T cells = orElse (topologyRefusal T) (firstRefusal ((ltb cells storeCells ⇒ ShortStore) ∷ []))
+unfoldable pub initializeRefusal : Topology → ℕ → Option ℕ
+initializeRefusal T cells = orElse (topologyRefusal T) (firstRefusal ((ltb cells storeCells ⇒ 6) ∷ []))
 
 -- "Setup writes copy 0 and counts 0 for the planned boards and counts 0 for the planned wires in half 0, then 0 into
 -- cell 0"
@@ -65,9 +63,9 @@ countsFit T store =
     allBelow (T .processes) (λ p. countFits store (storedLine store) (messageLog p))
     && allBelow (T .channels) (λ c. countFits store (storedLine store) (channelLog c))
 
-unfoldable pub recoverRefusal : Topology → List ℕ → Option Refusal
+unfoldable pub recoverRefusal : Topology → List ℕ → Option ℕ
 recoverRefusal T store =
-    orElse (initializeRefusal T (length store)) (firstRefusal ((not (countsFit T store) ⇒ BadCount) ∷ []))
+    orElse (initializeRefusal T (length store)) (firstRefusal ((not (countsFit T store) ⇒ 16) ∷ []))
 
 -- what the slot for line n makes of process p, with the first k entries of its message log: "words by replaying board
 -- logs on copies"
@@ -91,3 +89,16 @@ unfoldable pub recover : Topology → List ℕ → Startup
 recover T store =
     startupOr (recoverRefusal T store)
     (idleState T (storedLine store) (recoveredWord T store) (recoveredChannel T store)) store store
+
+-- what a recover says: "`line` and its number for a restart", or "`refused` and number"
+unfoldable pub lineOr : Option ℕ → ℕ → Said
+lineOr none k = line k
+lineOr (some n) k = refused n
+
+unfoldable pub recoverSaid : Startup → Said
+recoverSaid r = lineOr (r .refusal) (r .state .round .line)
+
+-- the state after a recover: its own, or the state as it was where it is refused
+unfoldable pub stateOr : Option ℕ → GlobalState → GlobalState → GlobalState
+stateOr none after before = after
+stateOr (some n) after before = before

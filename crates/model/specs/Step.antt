@@ -11,12 +11,8 @@ use Rattle.model.specs.declared.Entry.the-variants.{Message, Marker}
 use Rattle.model.specs.declared.Step.{Step}
 use Rattle.model.specs.declared.Step.the-variants.{Send, Receive, Begin, PhysicalCheckpoint}
 use Rattle.model.specs.declared.Step.the-variants.{LogicalCheckpoint, SendMarker, Commit, Abort}
-use Rattle.model.specs.declared.Outcome.{Outcome}
-use Rattle.model.specs.declared.Outcome.the-variants.{Done, Received, ReceivedMarker, Refused}
-use Rattle.model.specs.declared.Refusal.{Refusal}
-use Rattle.model.specs.declared.Refusal.the-variants.{Unsound, ShortStore, NoSuch, NotNow, LastLine}
-use Rattle.model.specs.declared.Refusal.the-variants.{ChannelEmpty, MarkerOnClosed, ChannelFull, LogFull}
 use Rattle.model.specs.Notation.{allBelow}
+use Rattle.model.specs.Outcome.{Said, done, took, note, refused}
 use Rattle.model.specs.Check.{Check, _⇒_, firstRefusal}
 use Rattle.model.specs.Topology.{sender, receiver, hasProcess, hasChannel}
 use Rattle.model.specs.Channel.{noRoomForMessage, noRoomForMarker, noEntry, bodyOf}
@@ -65,38 +61,38 @@ markerOnClosed s c = firstReaction s c (s .channel c) .closes && s .progress .cl
 -- now, by the conditions above; 13 begin with k = 4,294,967,295; 10 wire empty; 14 in marking, a note taken on a closed
 -- wire.
 unfoldable pub priorChecks : GlobalState → Step → List Check
-priorChecks s (Send c b) = (not (hasChannel (s .topology) c) ⇒ NoSuch) ∷ []
+priorChecks s (Send c b) = (not (hasChannel (s .topology) c) ⇒ 8) ∷ []
 priorChecks s (Receive c) =
-    (not (hasChannel (s .topology) c) ⇒ NoSuch)
-    ∷ (noEntry (s .channel c) ⇒ ChannelEmpty)
-    ∷ (markerOnClosed s c ⇒ MarkerOnClosed)
+    (not (hasChannel (s .topology) c) ⇒ 8)
+    ∷ (noEntry (s .channel c) ⇒ 10)
+    ∷ (markerOnClosed s c ⇒ 14)
     ∷ []
 priorChecks s Begin =
-    (not (isIdle (s .round .phase)) ⇒ NotNow) ∷ (eqb (s .round .line) lastLine ⇒ LastLine) ∷ []
+    (not (isIdle (s .round .phase)) ⇒ 12) ∷ (eqb (s .round .line) lastLine ⇒ 13) ∷ []
 priorChecks s (PhysicalCheckpoint p) =
-    (not (hasProcess (s .topology) p) ⇒ NoSuch) ∷ (not (isNext (s .round .phase) p) ⇒ NotNow) ∷ []
+    (not (hasProcess (s .topology) p) ⇒ 8) ∷ (not (isNext (s .round .phase) p) ⇒ 12) ∷ []
 priorChecks s (LogicalCheckpoint p) =
-    (not (hasProcess (s .topology) p) ⇒ NoSuch) ∷ (not (mayCheckpointLogically s p) ⇒ NotNow) ∷ []
+    (not (hasProcess (s .topology) p) ⇒ 8) ∷ (not (mayCheckpointLogically s p) ⇒ 12) ∷ []
 priorChecks s (SendMarker c) =
-    (not (hasChannel (s .topology) c) ⇒ NoSuch) ∷ (not (maySendMarker s c) ⇒ NotNow) ∷ []
-priorChecks s Commit = (not (mayCommit s) ⇒ NotNow) ∷ []
-priorChecks s Abort = (isIdle (s .round .phase) ⇒ NotNow) ∷ []
+    (not (hasChannel (s .topology) c) ⇒ 8) ∷ (not (maySendMarker s c) ⇒ 12) ∷ []
+priorChecks s Commit = (not (mayCommit s) ⇒ 12) ∷ []
+priorChecks s Abort = (isIdle (s .round .phase) ⇒ 12) ∷ []
 
 -- "9 wire holds 8 entries"
 unfoldable pub roomChecks : GlobalState → Step → List Check
-roomChecks s (Send c b) = (noRoomForMessage (s .channel c) ⇒ ChannelFull) ∷ []
+roomChecks s (Send c b) = (noRoomForMessage (s .channel c) ⇒ 9) ∷ []
 roomChecks s (Receive c) = []
 roomChecks s Begin = []
 roomChecks s (PhysicalCheckpoint p) = []
 roomChecks s (LogicalCheckpoint p) = []
-roomChecks s (SendMarker c) = (noRoomForMarker (s .channel c) ⇒ ChannelFull) ∷ []
+roomChecks s (SendMarker c) = (noRoomForMarker (s .channel c) ⇒ 9) ∷ []
 roomChecks s Commit = []
 roomChecks s Abort = []
 
 -- "11 the log needed is full"
 unfoldable pub logChecks : GlobalState → Step → List Check
 logChecks s (Send c b) = []
-logChecks s (Receive c) = (anyFull (s .counts) (firstReaction s c (s .channel c) .logs) ⇒ LogFull) ∷ []
+logChecks s (Receive c) = (anyFull (s .counts) (firstReaction s c (s .channel c) .logs) ⇒ 11) ∷ []
 logChecks s Begin = []
 logChecks s (PhysicalCheckpoint p) = []
 logChecks s (LogicalCheckpoint p) = []
@@ -110,14 +106,14 @@ ownChecks s x = priorChecks s x ++ (roomChecks s x ++ logChecks s x)
 
 -- "Order for steps: 15, 6, 8, 12, 13, 10, 14, 9, 11." cells is the number of the store's cells.
 unfoldable pub stepChecks : GlobalState → ℕ → Step → List Check
-stepChecks s cells x = (not (sound s) ⇒ Unsound) ∷ (ltb cells storeCells ⇒ ShortStore) ∷ ownChecks s x
+stepChecks s cells x = (not (sound s) ⇒ 15) ∷ (ltb cells storeCells ⇒ 6) ∷ ownChecks s x
 
 -- the line that the round under way is for: "A round writes into the half for line k + 1, k being the state's."
 unfoldable pub nextLine : GlobalState → ℕ
 nextLine s = s .round .line + 1
 
 -- no writes
-unfoldable pub quietly : Outcome → GlobalState → Result
+unfoldable pub quietly : Said → GlobalState → Result
 quietly outcome s = record { outcome = outcome; state = s; writes = [] }
 
 -- the receiver r, the channel c and the logs' counts, as a reaction has them: "a note first marks an unmarked receiver,
@@ -128,13 +124,13 @@ react x c r s =
     let saved : GlobalState = cond (x .logicalFirst) (logicalCheckpoint r counted) counted in
     cond (x .closes) (close c saved) saved
 
-unfoldable pub receivedOutcome : Entry → Outcome
-receivedOutcome (Message b t) = Received b
-receivedOutcome Marker = ReceivedMarker
+unfoldable pub receivedOutcome : Entry → Said
+receivedOutcome (Message b t) = took b
+receivedOutcome Marker = note
 
 -- "Take wire: removes the first entry": what it does, by the entries of its channel. (An empty one is refused.)
 unfoldable pub receive : GlobalState → ℕ → List Entry → Result
-receive s c [] = quietly Done s
+receive s c [] = quietly done s
 receive s c (e ∷ es) =
     let r : ℕ = receiver (s .topology) c in
     let x : Reaction = reaction s c e in
@@ -155,28 +151,28 @@ afterPhysical s p =
 unfoldable pub effect : GlobalState → Step → Result
 -- "Send wire, body: the entry gets the sender's tag."
 effect s (Send c b) =
-    quietly Done (setEntries c (s .channel c ++ (Message b (s .tag (sender (s .topology) c)) ∷ [])) s)
+    quietly done (setEntries c (s .channel c ++ (Message b (s .tag (sender (s .topology) c)) ∷ [])) s)
 effect s (Receive c) = receive s c (s .channel c)
 -- "Copying starts at board 0, for line k + 1"; "setup, restart and begin make [every log's count] 0"
 effect s Begin =
     record {
-      outcome = Done;
+      outcome = done;
       state = inPhase (Physical 0) (withCounts noCounts s);
       writes = clearWrites (s .topology) (nextLine s);
     }
 effect s (PhysicalCheckpoint p) =
-    record { outcome = Done; state = afterPhysical s p; writes = physicalWrites (nextLine s) p (s .word p) }
-effect s (LogicalCheckpoint p) = quietly Done (logicalCheckpoint p s)
-effect s (SendMarker c) = quietly Done (recordSent c (setEntries c (s .channel c ++ (Marker ∷ [])) s))
+    record { outcome = done; state = afterPhysical s p; writes = physicalWrites (nextLine s) p (s .word p) }
+effect s (LogicalCheckpoint p) = quietly done (logicalCheckpoint p s)
+effect s (SendMarker c) = quietly done (recordSent c (setEntries c (s .channel c ++ (Marker ∷ [])) s))
 -- "The state becomes idle with line k + 1."
-effect s Commit = record { outcome = Done; state = endRound (nextLine s) s; writes = commitWrites (nextLine s) }
+effect s Commit = record { outcome = done; state = endRound (nextLine s) s; writes = commitWrites (nextLine s) }
 -- "Notes leave the wires, all tags become 0, message order stays, the state is idle."
-effect s Abort = quietly Done (endRound (s .round .line) (withTag (λ p. false) (withChannel (plainChannels s) s)))
+effect s Abort = quietly done (endRound (s .round .line) (withTag (λ p. false) (withChannel (plainChannels s) s)))
 
 -- "A refusal makes 0 stores and returns the state handed in"
-unfoldable pub resultOf : Option Refusal → GlobalState → Step → Result
+unfoldable pub resultOf : Option ℕ → GlobalState → Step → Result
 resultOf none s x = effect s x
-resultOf (some r) s x = quietly (Refused r) s
+resultOf (some n) s x = quietly (refused n) s
 
 unfoldable pub step : GlobalState → ℕ → Step → Result
 step s cells x = resultOf (firstRefusal (stepChecks s cells x)) s x

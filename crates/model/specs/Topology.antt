@@ -6,14 +6,6 @@ use mathlib.Core.Option.{Option}
 use lib.ListN.{getD}
 use lib.Dec.{leb, ltb, eqb}
 use Rattle.model.specs.declared.Topology.{Topology}
-use Rattle.model.specs.declared.Refusal.{Refusal}
-use Rattle.model.specs.declared.Refusal.the-variants.{
-  ProcessCount,
-  ChannelCount,
-  UnknownEnd,
-  SelfChannel,
-  DoubledChannel,
-}
 use Rattle.model.specs.Notation.{allBelow, firstBelow, orElse}
 use Rattle.model.specs.Check.{Check, _⇒_, firstRefusal}
 
@@ -46,27 +38,27 @@ sameEnds T d c = eqb (sender T d) (sender T c) && eqb (receiver T d) (receiver T
 -- direction."
 abbrev pub channelChecks : Topology → ℕ → List Check
 channelChecks T c =
-    (not (hasProcess T (sender T c) && hasProcess T (receiver T c)) ⇒ UnknownEnd)
-    ∷ (eqb (sender T c) (receiver T c) ⇒ SelfChannel)
-    ∷ (not (allBelow c (λ d. not (sameEnds T d c))) ⇒ DoubledChannel)
+    (not (hasProcess T (sender T c) && hasProcess T (receiver T c)) ⇒ 3)
+    ∷ (eqb (sender T c) (receiver T c) ⇒ 4)
+    ∷ (not (allBelow c (λ d. not (sameEnds T d c))) ⇒ 5)
     ∷ []
 
-unfoldable pub channelRefusal : Topology → ℕ → Option Refusal
+unfoldable pub channelRefusal : Topology → ℕ → Option ℕ
 channelRefusal T c = firstRefusal (channelChecks T c)
 
 -- "1 boards not 1 to 16. 2 over 64 wires."
 abbrev pub sizeChecks : ℕ → ℕ → List Check
 sizeChecks processes channels =
-    (not (leb 1 processes && leb processes processLimit) ⇒ ProcessCount) ∷ (ltb channelLimit channels ⇒ ChannelCount) ∷
+    (not (leb 1 processes && leb processes processLimit) ⇒ 1) ∷ (ltb channelLimit channels ⇒ 2) ∷
     []
 
-unfoldable pub sizeRefusal : ℕ → ℕ → Option Refusal
+unfoldable pub sizeRefusal : ℕ → ℕ → Option ℕ
 sizeRefusal processes channels = firstRefusal (sizeChecks processes channels)
 
 -- 3 to 5 channel by channel: the first channel that offends decides
-unfoldable pub channelsRefusal : Topology → Option Refusal
+unfoldable pub channelsRefusal : Topology → Option ℕ
 channelsRefusal T = firstBelow (T .channels) (channelRefusal T)
 
 -- 1 and 2, then 3 to 5
-unfoldable pub topologyRefusal : Topology → Option Refusal
+unfoldable pub topologyRefusal : Topology → Option ℕ
 topologyRefusal T = orElse (sizeRefusal (T .processes) (T .channels)) (channelsRefusal T)

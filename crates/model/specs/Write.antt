@@ -4,10 +4,9 @@ use mathlib.Core.Bool.{cond}
 use mathlib.Core.List.{List, [], _∷_, _++_}
 use lib.ListN.{length, take, set}
 use lib.Dec.{ltb}
-use Rattle.model.specs.declared.Outcome.{Outcome}
-use Rattle.model.specs.declared.Outcome.the-variants.{PowerLost}
 use Rattle.model.specs.declared.Topology.{Topology}
 use Rattle.model.specs.Notation.{tabulate}
+use Rattle.model.specs.Outcome.{Said, cut}
 use Rattle.model.specs.Layout.{Log, messageLog, channelLog, countCell, entryCell, physicalCell, lineCell}
 use Rattle.model.specs.State.{GlobalState, LogCounts, countOf}
 
@@ -53,13 +52,13 @@ commitWrites n = record { cell = lineCell; value = n } ∷ []
 
 -- What a step does if the power holds: its outcome, the state after it, and the writes that it needs, in order.
 pub record Result : Type 0 where
-  pub outcome : Outcome
+  pub outcome : Said
   pub state : GlobalState
   pub writes : List Write
 
 -- What a step answers: outcome, writes made and state, and what it leaves in the store.
 pub record Answered : Type 0 where
-  pub outcome : Outcome
+  pub outcome : Said
   pub made : ℕ
   pub state : GlobalState
   pub store : List ℕ
@@ -69,7 +68,7 @@ pub record Answered : Type 0 where
 unfoldable pub underBudget : ℕ → GlobalState → List ℕ → Result → Answered
 underBudget budget s store r =
     record {
-      outcome = cond (ltb budget (length (r .writes))) PowerLost (r .outcome);
+      outcome = cond (ltb budget (length (r .writes))) cut (r .outcome);
       made = min budget (length (r .writes));
       state = cond (ltb budget (length (r .writes))) s (r .state);
       store = writeAll store (take budget (r .writes));

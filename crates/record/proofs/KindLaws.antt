@@ -9,11 +9,9 @@ use borrow.Author.Tests.{ne-eqb, ltb-true, ltb-false}
 use native.Mathlib.Omega.{arith}
 use native.Mathlib.Nat.{eq-or-lt-of-le}
 use Rattle.model.specs.declared.Record.{Record}
-use Rattle.model.specs.declared.Refusal.the-variants.{Malformed}
 use Rattle.model.specs.Record.{Fields, absent, provided, recordOf, withRest}
 use Rattle.model.proofs.laws.Tests.{true-is-not-false, Tested, holds, fails, test}
-use Rattle.record.specs.declared.Reading.the-variants.{Read, Refused}
-use Rattle.record.specs.Reading.{answered}
+use Rattle.record.specs.Reading.{gives, refuses, answered}
 use Rattle.record.specs.Kind.{isRecord, decided}
 
 row-there : (t : Bool) (r : Record) → isRecord (provided t r) ≡ t
@@ -22,12 +20,12 @@ row-there true r = refl
 row-there false r = refl
 
 -- what is answered where a row is there, and where none is
-pub row-answers : (t : Bool) (r : Record) → isRecord (provided t r) ≡ true → Read r ≡ decided (provided t r)
+pub row-answers : (t : Bool) (r : Record) → isRecord (provided t r) ≡ true → gives r ≡ decided (provided t r)
 unfolding provided isRecord withRest answered
 row-answers true r e = refl
 row-answers false r e = true-is-not-false e refl
 
-pub none-answers : (o : Option Record) → isRecord o ≡ false → Refused Malformed ≡ decided o
+pub none-answers : (o : Option Record) → isRecord o ≡ false → refuses 7 ≡ decided o
 unfolding isRecord withRest answered
 none-answers none e = refl
 none-answers (some r) e = true-is-not-false refl e

@@ -16,7 +16,9 @@ use Rattle.record.specs.declared.field.Field.{Field}
 use Rattle.record.specs.declared.field.Field.the-variants.{Value, Broken}
 use Rattle.record.specs.Field.{readingIn, Fit, Within, Reads}
 use Rattle.record.specs.declared.parse.Parsed.{Parsed}
-use Rattle.record.specs.Reading.{answered, remaining}
+use Rattle.record.specs.declared.Reading.{Reading}
+use Rattle.record.specs.declared.Reading.the-variants.{Read, Refused}
+use Rattle.record.specs.Reading.{saysOf, answered, remaining}
 use Rattle.record.specs.Parse.{Parses, unread, wholeOf}
 use Rattle.record.specs.Kind.{fields, decided}
 
@@ -27,11 +29,13 @@ unfolding answered remaining
 unread-parses e q = record { answer = rw (e, q); rest = rw (e, q); within = rw q (omega arith) }
 
 -- the end of a reading
-pub whole-parses : {bytes : List ℕ} (o : Option Record) (next : ℕ) → next ≤ length bytes
-    → Parses (withRest o (drop next bytes)) bytes (wholeOf (decided o) next)
+pub whole-parses : {bytes : List ℕ} (x : Reading) (o : Option Record) (next : ℕ) → saysOf x ≡ decided o
+    → next ≤ length bytes → Parses (withRest o (drop next bytes)) bytes (wholeOf x next)
 unfolding answered remaining withRest wholeOf
-whole-parses none next h = unread-parses refl refl
-whole-parses (some r) next h = record { answer = refl; rest = refl; within = h }
+whole-parses (Read r) none next e h = unread-parses refl (cc)
+whole-parses (Read r) (some y) next e h = record { answer = e; rest = refl; within = h }
+whole-parses (Refused x) none next e h = unread-parses refl refl
+whole-parses (Refused x) (some y) next e h = unread-parses (cc) refl
 
 -- the start of a reading: fewer than two bytes, a bad bit map, a good one
 pub too-short : (bytes : List ℕ) → length bytes < 2 → readFields bytes ≡ none

@@ -9,11 +9,11 @@ use Rattle.model.specs.Record as model
 use Rattle.record.specs.declared.Reading.{Reading}
 use Rattle.record.specs.declared.Reading.the-variants.{Read, Refused}
 use Rattle.record.specs.declared.parse.Parsed.{Parsed}
-use Rattle.record.specs.Reading.{answered, remaining}
+use Rattle.record.specs.Reading.{saysOf, answered, remaining}
 
 -- both parts of a reading that the bytes begin with
 pub record Parses (reading : model.Reading Record) (bytes : List ℕ) (p : Parsed) : Type 0 where
-  pub answer : p .reading ≡ answered reading
+  pub answer : saysOf (p .reading) ≡ answered reading
   pub rest : drop (p .next) bytes ≡ remaining reading bytes
   pub within : p .next ≤ length bytes
 

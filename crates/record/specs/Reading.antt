@@ -3,15 +3,25 @@ use Prim.Native.Nat.{ℕ}
 use mathlib.Core.List.{List}
 use mathlib.Core.Option.{none, some}
 use Rattle.model.specs.declared.Record.{Record}
-use Rattle.model.specs.declared.Refusal.the-variants.{Malformed}
+use Rattle.model.specs.Outcome.{refusalNumber}
 use Rattle.model.specs.Record as model
 use Rattle.record.specs.declared.Reading.{Reading}
 use Rattle.record.specs.declared.Reading.the-variants.{Read, Refused}
 
+-- what a reading says: the record, or document 01's number of the refusal
+pub data Says : Type 0 where
+  gives : Record → Says
+  refuses : ℕ → Says
+
+-- what each case of the code's answer says
+abbrev pub saysOf : Reading → Says
+saysOf (Read r) = gives r
+saysOf (Refused x) = refuses (refusalNumber x)
+
 -- "The reader gives the step [..] All else is 7."
-unfoldable pub answered : model.Reading Record → Reading
-answered none = Refused Malformed
-answered (some r) = Read (r .0)
+unfoldable pub answered : model.Reading Record → Says
+answered none = refuses 7
+answered (some r) = gives (r .0)
 
 -- "and the rest of the bytes, as a part of the caller's slice": all of them where they are refused
 unfoldable pub remaining : {A : Type 0} → model.Reading A → List ℕ → List ℕ

@@ -5,6 +5,7 @@ use model::Refusal;
 use model::Step;
 ghost use mathlib.Core.Path.{_≡_};
 ghost use Rattle.model.specs.Record.{recordOf};
+ghost use Rattle.record.specs.Reading.{saysOf};
 ghost use Rattle.record.specs.Kind.{fields, isRecord, decided};
 
 // Whether it is a kind, and the fields that the kind doesn't use are absent.
@@ -22,7 +23,7 @@ fn fits(kind: u8, process: u8, channel: u8, body: u32) -> bool
 
 // The record of a kind and its fields, an absent one 0; refusal 7 where they don't fit.
 pub fn record_of(kind: u8, process: u8, channel: u8, body: u32) -> Reading
-    ensures { λ r. ⌜ r ≡ decided (recordOf (fields kind process channel body)) ⌝ }
+    ensures { λ r. ⌜ saysOf r ≡ decided (recordOf (fields kind process channel body)) ⌝ }
 {
     if !fits(kind, process, channel, body) {
         return Reading::Refused(Refusal::Malformed);

@@ -47,8 +47,8 @@ unfolding
     step.receivedOutcome step.receive step.afterPhysical step.effect step.resultOf step.step step.answer
     start.startupOr start.initializeRefusal start.initializeWrites start.initialize start.storedLine start.countFits
     start.countsFit start.recoverRefusal start.restoredBy start.restored start.recoveredWord start.recoveredChannel
-    start.recover
-    outcome.outcomeValues
+    start.recover start.lineOr start.recoverSaid start.stateOr
+    outcome.saidValues
     records.fieldsOf records.absent records.provided records.recordOf records.andThen records.nonzero records.readByte
     records.readBody records.readField records.stands records.goodMap records.fieldsAfter records.withRest
     records.readFields records.readRecord
@@ -57,6 +57,6 @@ unfolding
     program.lineThen program.brokenLine program.session program.sessionFrom program.sessionOf program.report
     program.playedOf program.played program.head
     cases.input
-    text.digits text.decimal text.values text.outcomeName text.saidText text.lineText text.linesText text.outputText
+    text.digits text.decimal text.values text.saidName text.saidText text.lineText text.linesText text.outputText
     examples.lines examples.examples
 examples-hold = refl

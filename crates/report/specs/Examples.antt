@@ -3,11 +3,10 @@
 use Prim.Native.Nat.{ℕ}
 use Prim.Native.String.{String}
 use mathlib.Core.List.{List, [], _∷_, _++_}
-use Rattle.model.specs.declared.Outcome.the-variants.{Refused, PowerLost}
-use Rattle.model.specs.declared.Refusal.the-variants.{NotNow}
+use Rattle.model.specs.Outcome.{refused, cut}
 use Rattle.model.specs.Program.{head}
 use Rattle.model.specs.Cases.{input}
-use Rattle.report.specs.Text.{chars, outcomeText, cellText, outputText}
+use Rattle.report.specs.Text.{chars, saidLine, cellText, outputText}
 
 -- each line with its end
 unfoldable pub lines : List String → List ℕ
@@ -47,8 +46,8 @@ examples =
     }
     -- a plan of one byte
     ∷ record { got = outputText (head (0x02 ∷ [])); expected = lines ("plan refused 7" ∷ []) }
-    ∷ record { got = outcomeText 5 (Refused NotNow) 0; expected = lines ("5 refused 12 0" ∷ []) }
+    ∷ record { got = saidLine 5 (refused 12) 0; expected = lines ("5 refused 12 0" ∷ []) }
     -- `drill` alone
-    ∷ record { got = outcomeText 5 PowerLost 3; expected = lines ("5 cut 3" ∷ []) }
+    ∷ record { got = saidLine 5 cut 3; expected = lines ("5 cut 3" ∷ []) }
     ∷ record { got = cellText 3264 4294967295; expected = lines ("cell 3264 4294967295" ∷ []) }
     ∷ []

@@ -7,12 +7,9 @@ use mathlib.Core.Bool.{cond}
 use mathlib.Core.List.{List, [], _∷_, _++_}
 use lib.ListN.{length, getD}
 use lib.Dec.{ltb}
-use Rattle.model.specs.declared.Outcome.{Outcome}
-use Rattle.model.specs.declared.Outcome.the-variants.{Done, Received, ReceivedMarker, Refused, PowerLost}
-use Rattle.model.specs.declared.Refusal.{Refusal}
 use Rattle.model.specs.Notation.{concatBelow}
-use Rattle.model.specs.Outcome.{refusalNumber, outcomeValues}
-use Rattle.model.specs.Program.{Said, outcome, line, Line, Output, planRefused, ran}
+use Rattle.model.specs.Outcome.{Said, done, took, note, line, refused, cut, saidValues}
+use Rattle.model.specs.Program.{Line, Output, planRefused, ran}
 
 -- the codes of a text's characters
 abbrev pub chars : String → List ℕ
@@ -38,38 +35,34 @@ unfoldable pub values : List ℕ → List ℕ
 values [] = []
 values (v ∷ vs) = chars " " ++ decimal v ++ values vs
 
--- "Outcomes: `done`; `took` and body; `note`; [..] `refused` and number". `drill` alone has `cut`, for a step whose
--- power was lost.
-unfoldable pub outcomeName : Outcome → String
-outcomeName Done = "done"
-outcomeName (Received body) = "took"
-outcomeName ReceivedMarker = "note"
-outcomeName (Refused r) = "refused"
-outcomeName PowerLost = "cut"
+-- "Outcomes: `done`; `took` and body; `note`; `line` and its number for a restart; `refused` and number". `drill` alone
+-- has `cut`, for a step whose power was lost.
+unfoldable pub saidName : Said → String
+saidName done = "done"
+saidName (took body) = "took"
+saidName note = "note"
+saidName (line k) = "line"
+saidName (refused n) = "refused"
+saidName cut = "cut"
 
--- "[..] `line` and its number for a restart"
 unfoldable pub saidText : Said → List ℕ
-saidText (outcome o) = chars (outcomeName o) ++ values (outcomeValues o)
-saidText (line k) = chars "line" ++ values (k ∷ [])
+saidText s = chars (saidName s) ++ values (saidValues s)
 
 -- "Each line has step number, outcome, stores made."
 unfoldable pub lineText : Line → List ℕ
 lineText l = decimal (l .number) ++ chars " " ++ saidText (l .said) ++ values (l .made ∷ []) ++ chars "\n"
 
--- the line of a step, and of a recover, which makes no writes
-abbrev pub outcomeText : ℕ → Outcome → ℕ → List ℕ
-outcomeText n o made = lineText (record { number = n; said = outcome o; made = made })
-
-abbrev pub recoverText : ℕ → ℕ → List ℕ
-recoverText n k = lineText (record { number = n; said = line k; made = 0 })
+-- line n, with what is said in it and the stores made
+abbrev pub saidLine : ℕ → Said → ℕ → List ℕ
+saidLine n s made = lineText (record { number = n; said = s; made = made })
 
 -- a line that opens with a name
 abbrev pub named : List ℕ → List ℕ → List ℕ
 named name vs = name ++ values vs ++ chars "\n"
 
 -- "It prints `plan refused n` and stops"
-abbrev pub planRefusedText : Refusal → List ℕ
-planRefusedText r = named (chars "plan refused") (refusalNumber r ∷ [])
+abbrev pub planRefusedText : ℕ → List ℕ
+planRefusedText n = named (chars "plan refused") (n ∷ [])
 
 -- "each board with its word"
 abbrev pub processText : ℕ → ℕ → List ℕ
@@ -90,7 +83,7 @@ linesText (l ∷ ls) = lineText l ++ linesText ls
 -- The whole output of `head`: a line for each record. "Last come each board with its word, and each wire with its
 -- message count and bodies."
 unfoldable pub outputText : Output → List ℕ
-outputText (planRefused r) = planRefusedText r
+outputText (planRefused n) = planRefusedText n
 outputText (ran lines words channels) =
     linesText lines
     ++ concatBelow (length words) (λ p. processText p (getD words p 0))

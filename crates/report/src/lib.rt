@@ -9,10 +9,10 @@ ghost use mathlib.Core.Path.{_≡_};
 ghost use mathlib.Core.List.{[], _∷_, _++_};
 ghost use lib.ListN.{length};
 ghost use Rattle.model.specs.Channel.{entries, bodies};
-ghost use Rattle.model.specs.Outcome.{refusalNumber};
-ghost use Rattle.model.specs.Program as program;
+ghost use Rattle.model.specs.Outcome.{refusalNumber, saidBy};
+ghost use Rattle.model.specs.Outcome as says;
 ghost use Rattle.report.specs.Appends.{Appends};
-ghost use Rattle.report.specs.Text.{chars, decimal, values, named, saidText, outcomeText, recoverText};
+ghost use Rattle.report.specs.Text.{chars, decimal, values, named, saidText, saidLine};
 ghost use Rattle.report.specs.Text.{planRefusedText, processText, channelText, cellText};
 
 // A text.
@@ -100,7 +100,7 @@ pub fn number(r: Refusal) -> u8
 
 // A step's outcome, with its value if it has one.
 fn said(out: &mut [u8], at: usize, outcome: Outcome) -> usize
-    ensures { λ r. ⌜ Appends (now (out .entry)) at (saidText (program.outcome outcome)) (now (out .exit)) r ⌝ }
+    ensures { λ r. ⌜ Appends (now (out .entry)) at (saidText (saidBy outcome)) (now (out .exit)) r ⌝ }
 {
     match outcome {
         Outcome::Done => bytes(out, at, b"done"),
@@ -119,7 +119,7 @@ fn said(out: &mut [u8], at: usize, outcome: Outcome) -> usize
 
 // A step's line.
 pub fn outcome_line(out: &mut [u8], at: usize, number: u32, outcome: Outcome, made: u32) -> usize
-    ensures { λ r. ⌜ Appends (now (out .entry)) at (outcomeText number outcome made) (now (out .exit)) r ⌝ }
+    ensures { λ r. ⌜ Appends (now (out .entry)) at (saidLine number (saidBy outcome) made) (now (out .exit)) r ⌝ }
 {
     let next = numbered(out, at, number);
     let told = said(out, next, outcome);
@@ -128,7 +128,7 @@ pub fn outcome_line(out: &mut [u8], at: usize, number: u32, outcome: Outcome, ma
 
 // A recover's line: it makes no writes.
 pub fn recover_line(out: &mut [u8], at: usize, number: u32, line: u32) -> usize
-    ensures { λ r. ⌜ Appends (now (out .entry)) at (recoverText number line) (now (out .exit)) r ⌝ }
+    ensures { λ r. ⌜ Appends (now (out .entry)) at (saidLine number (says.line line) 0) (now (out .exit)) r ⌝ }
 {
     let next = numbered(out, at, number);
     let named = bytes(out, next, b"line");
@@ -138,7 +138,7 @@ pub fn recover_line(out: &mut [u8], at: usize, number: u32, line: u32) -> usize
 
 // The line for a plan that is refused.
 pub fn plan_refused(out: &mut [u8], at: usize, r: Refusal) -> usize
-    ensures { λ n. ⌜ Appends (now (out .entry)) at (planRefusedText r) (now (out .exit)) n ⌝ }
+    ensures { λ n. ⌜ Appends (now (out .entry)) at (planRefusedText (refusalNumber r)) (now (out .exit)) n ⌝ }
 {
     let next = bytes(out, at, b"plan refused");
     last(out, next, number(r) as u32)

@@ -12,7 +12,6 @@ use borrow.Author.Tests.{lt-ltb, eq-eqb, ne-eqb, ltb-true}
 use native.Mathlib.Omega.{arith}
 use native.Mathlib.Numerals.{add-one}
 use Rattle.model.specs.declared.Topology.{Topology}
-use Rattle.model.specs.declared.Refusal.the-variants.{UnknownEnd, SelfChannel, DoubledChannel}
 use Rattle.model.specs.Notation.{allBelow}
 use Rattle.model.specs.Check.{firstRefusal}
 use Rattle.model.specs.Topology.{processLimit, sender, receiver, hasProcess, sameEnds, channelRefusal}
@@ -21,24 +20,24 @@ use Rattle.model.proofs.laws.Functions.{Indices, indices, same, other}
 
 -- a channel's refusal, case by case
 module _ (T : Topology) (c : ℕ) where
-  pub unknown-end : (sender T c < T .processes → receiver T c < T .processes → ⊥) → channelRefusal T c ≡ some UnknownEnd
+  pub unknown-end : (sender T c < T .processes → receiver T c < T .processes → ⊥) → channelRefusal T c ≡ some 3
   unfolding channelRefusal firstRefusal hasProcess
   unknown-end h = go (test (ltb (sender T c) (T .processes))) (test (ltb (receiver T c) (T .processes)))
     where
       go : Tested (ltb (sender T c) (T .processes))
           → Tested (ltb (receiver T c) (T .processes))
-          → channelRefusal T c ≡ some UnknownEnd
+          → channelRefusal T c ≡ some 3
       go (fails p) q = rw p
       go (holds p) (fails q) = rw (p, q)
       go (holds p) (holds q) = absurd (h (ltb-true _ _ p) (ltb-true _ _ q))
 
   module _ (from : sender T c < T .processes) (to : receiver T c < T .processes) where
-    pub self-channel : sender T c ≡ receiver T c → channelRefusal T c ≡ some SelfChannel
+    pub self-channel : sender T c ≡ receiver T c → channelRefusal T c ≡ some 4
     unfolding channelRefusal firstRefusal hasProcess
     self-channel e = rw (lt-ltb _ _ from, lt-ltb _ _ to, eq-eqb _ _ e)
 
     two-ends : (sender T c ≡ receiver T c → ⊥)
-        → channelRefusal T c ≡ cond (not (allBelow c (λ d. not (sameEnds T d c)))) (some DoubledChannel) none
+        → channelRefusal T c ≡ cond (not (allBelow c (λ d. not (sameEnds T d c)))) (some 5) none
     unfolding channelRefusal firstRefusal hasProcess
     two-ends e = rw (lt-ltb _ _ from, lt-ltb _ _ to, ne-eqb _ _ e)
 
@@ -68,7 +67,7 @@ seen-none T =
 -- the table answers for all earlier channels
 pub doubled : (T : Topology) (c : ℕ) (seen : List Bool) → Seen T c seen → T .processes ≤ processLimit
     → sender T c < T .processes → receiver T c < T .processes → (sender T c ≡ receiver T c → ⊥)
-    → channelRefusal T c ≡ cond (getD seen (place (sender T c) (receiver T c)) false) (some DoubledChannel) none
+    → channelRefusal T c ≡ cond (getD seen (place (sender T c) (receiver T c)) false) (some 5) none
 unfolding sameEnds
 doubled T c seen s l from to e =
     rw (s .at (sender T c) (receiver T c) (omega arith) (omega arith)) (two-ends T c from to e)

@@ -3,6 +3,7 @@ use model::Entry;
 use model::Outcome;
 use model::Phase;
 ghost use mathlib.Core.Path.{_≡_};
+ghost use Rattle.model.specs.Outcome.{saidBy};
 ghost use Rattle.model.specs.Channel.{bodyOf};
 ghost use Rattle.model.specs.Step.{receivedOutcome};
 ghost use Rattle.rules.specs.Reacting.{Reacts, logging};
@@ -73,7 +74,7 @@ pub fn body(e: Entry) -> u32
 
 // What receiving it answers.
 pub fn outcome(e: Entry) -> Outcome
-    ensures { λ r. ⌜ r ≡ receivedOutcome e ⌝ }
+    ensures { λ r. ⌜ saidBy r ≡ receivedOutcome e ⌝ }
 {
     match e {
         Entry::Message { body, tag: _ } => Outcome::Received(body),

@@ -6,7 +6,7 @@ use model::Topology;
 use model::Verdict;
 ghost use mathlib.Core.Path.{_≡_};
 ghost use Prim.Native.Nat.{_+_, _*_, _≤_, _<_};
-ghost use Rattle.model.specs.Check.{refusalOf};
+ghost use Rattle.model.specs.Outcome.{refusalOf};
 ghost use Rattle.model.specs.Topology.{processLimit, channelLimit, sizeRefusal, channelsRefusal, topologyRefusal};
 
 // How many pairs of processes there are.

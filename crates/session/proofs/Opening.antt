@@ -7,11 +7,10 @@ use mathlib.Core.Option.{none, some}
 use lib.ListN.{length, take, drop, length-take}
 use borrow.Author.Tests.{le-ltb}
 use native.Mathlib.Omega.{arith}
-use Rattle.model.specs.declared.Refusal.{Refusal}
-use Rattle.model.specs.declared.Start.the-variants as start
 use Rattle.model.specs.declared.Started.{Started}
 use Rattle.model.specs.declared.Topology.{Topology}
 use Rattle.model.specs.Notation.{orElse}
+use Rattle.model.specs.Outcome.{startRefusal}
 use Rattle.model.specs.Check.{firstRefusal}
 use Rattle.model.specs.Topology.{topologyRefusal}
 use Rattle.model.specs.Layout.{storeCells}
@@ -20,7 +19,7 @@ use Rattle.model.specs.Start.{initializeRefusal, initialize}
 use Rattle.model.specs.Program.{BudgetSource, given, inputBytes, planOf, planLength, shapeRefusal, planRefusal}
 use Rattle.model.specs.Program.{sessionFrom, sessionOf, playedOf, played}
 use Rattle.model.proofs.laws.Lists.{or-nothing}
-use Rattle.model.proofs.laws.Calls.{ready, not-ready}
+use Rattle.model.proofs.laws.Calls.{initialize-refusal, refused-leaves}
 use Rattle.model.proofs.laws.TopologyLaws.{SizesFit}
 use Rattle.engine.specs.Starts.{Starts}
 use Rattle.report.specs.Appends.{Appends}
@@ -45,19 +44,15 @@ module _ {bytes store : List ℕ} (may : MayRun bytes store) where
     plan-sizes = rw plan (whole bytes (may .shaped) .fit)
 
     module _ {x : Started} {after : List ℕ} (b : Starts (initialize T store) x after) where
-      pub opens : x .start ≡ start.Ready → planRefusal bytes ≡ none
-      unfolding initialize
-      opens e = sym decided ∙ ready _ _ _ _ (rw plan at (sym (b .start) ∙ e))
+      pub decides : planRefusal bytes ≡ startRefusal (x .start)
+      decides = sym decided ∙ rw plan at (sym (initialize-refusal T store) ∙ sym (b .start))
 
-      pub refuses : {r : Refusal} → x .start ≡ start.Refused r → (planRefusal bytes ≡ some r) × (after ≡ store)
-      unfolding initialize
-      refuses e =
-          let (refusal, kept) = not-ready _ _ _ _ (rw plan at (sym (b .start) ∙ e)) in
-          (sym decided ∙ refusal, rw plan at (b .store) ∙ kept)
+      pub leaves : {n : ℕ} → startRefusal (x .start) ≡ some n → after ≡ store
+      leaves e = b .store ∙ refused-leaves T store (sym (initialize-refusal T store) ∙ (sym (b .start) ∙ e))
 
 -- the whole of a session, by its parts
 module _ (source : BudgetSource) (bytes store : List ℕ) where
-  pub plays-refused : {r : Refusal} {out a left : List ℕ} {q : ℕ} → planRefusal bytes ≡ some r → left ≡ store
+  pub plays-refused : {r : ℕ} {out a left : List ℕ} {q : ℕ} → planRefusal bytes ≡ some r → left ≡ store
       → Appends out 0 (planRefusedText r) a q → Plays (playedOf (planRefusal bytes) source store bytes) out a q left
   unfolding outputText playedOf
   plays-refused e s t = rw e (record { text = t; store = s })
@@ -89,7 +84,7 @@ module _ (source : BudgetSource) (bytes store : List ℕ) where
 pub input-bytes : {bytes : List ℕ} (input : List ℕ) → bytes ≡ take inputBytes input → length bytes ≤ inputBytes
 input-bytes input e = rw e (rw (length-take inputBytes input) (omega arith))
 
-pub shape-refuses : (bytes : List ℕ) {r : Refusal} → shapeRefusal bytes ≡ some r → planRefusal bytes ≡ some r
+pub shape-refuses : (bytes : List ℕ) {r : ℕ} → shapeRefusal bytes ≡ some r → planRefusal bytes ≡ some r
 unfolding planRefusal orElse
 shape-refuses bytes e = rw e
 

@@ -6,13 +6,11 @@ use mathlib.Core.Option.{none, some}
 use lib.ListN.{length, length-append}
 use native.Mathlib.Omega.{arith}
 use Rattle.model.specs.declared.Record.{Record}
-use Rattle.model.specs.declared.Refusal.{Refusal}
 use Rattle.model.specs.Record.{Reading, AreBytes, bodyBytes, writeFields, writeRecord}
 use Rattle.model.specs.Program.{BudgetSource, full, given, Request, readBudget, readRequest}
 use Rattle.model.proofs.RoundTrip.{read-is-written}
 use Rattle.model.proofs.laws.RecordLaws.{both, same, later-bytes, body-written}
-use Rattle.record.specs.Reading.{answered, remaining}
-use Rattle.record.specs.declared.Reading.the-variants.{Read, Refused}
+use Rattle.record.specs.Reading.{gives, refuses, answered, remaining}
 use Rattle.session.specs.declared.request.Budget.the-variants as budget
 use Rattle.session.specs.declared.request.Request.the-variants as request
 use Rattle.session.specs.Request.{budgeted, requested, afterRequest}
@@ -23,7 +21,7 @@ unfolding budgeted
 no-budget none e = refl
 no-budget (some r) e = cc
 
-pub no-record : (x : Reading Record) {refusal : Refusal} → answered x ≡ Refused refusal → x ≡ none
+pub no-record : (x : Reading Record) {n : ℕ} → answered x ≡ refuses n → x ≡ none
 unfolding answered
 no-record none e = refl
 no-record (some r) e = cc
@@ -40,7 +38,7 @@ module _ (bytes : List ℕ) where
   a-budget none e = cc
   a-budget (some (a, rest)) e = cc
 
-  pub a-record : (x : Reading Record) {r : Record} → answered x ≡ Read r → x ≡ some (r, remaining x bytes)
+  pub a-record : (x : Reading Record) {r : Record} → answered x ≡ gives r → x ≡ some (r, remaining x bytes)
   unfolding answered remaining
   a-record none e = cc
   a-record (some (a, rest)) e = cc

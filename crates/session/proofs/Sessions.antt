@@ -7,16 +7,15 @@ use mathlib.Core.List.{List, [], _∷_, append-nil}
 use mathlib.Core.Option.{none, some}
 use lib.ListN.{length}
 use native.Mathlib.Omega.{arith}
-use Rattle.model.specs.declared.Outcome.the-variants.{Refused}
-use Rattle.model.specs.declared.Refusal.the-variants.{Malformed}
 use Rattle.model.specs.declared.Topology.{Topology}
+use Rattle.model.specs.Outcome.{refused}
 use Rattle.model.specs.Record as model
 use Rattle.model.specs.Record.{AreBytes}
 use Rattle.model.specs.State.{GlobalState, view}
 use Rattle.model.specs.Program.{BudgetSource, Request, Served, Session, readRequest, readingThen, readAll, serve}
 use Rattle.model.specs.Program.{lineThen, brokenLine, session, sessionFrom}
 use Rattle.report.specs.Appends.{Appends}
-use Rattle.report.specs.Text.{outcomeText, linesText}
+use Rattle.report.specs.Text.{saidLine, linesText}
 use Rattle.report.proofs.Appending.{nothing, _then_}
 use Rattle.session.specs.declared.serve.Turn.{Turn}
 use Rattle.session.specs.Serving.{served, Serves, Prints}
@@ -94,7 +93,7 @@ module _ (source : BudgetSource) (T : Topology) (turn : Turn) (store bytes : Lis
       (rw (ended source T n s store bytes l) (record { text = nothing out (turn .at); state = refl; store = refl }))
 
   pub leads-to-break : {after : List ℕ} {r : ℕ} → 0 < length bytes → readRequest source bytes ≡ none
-      → Appends out (turn .at) (outcomeText n (Refused Malformed) 0) after r → Prints all out₀ at₀ after r s store
+      → Appends out (turn .at) (saidLine n (refused 7) 0) after r → Prints all out₀ at₀ after r s store
   unfolding linesText brokenLine
   leads-to-break {after} {r} l e t =
       leads after r s store

@@ -2,22 +2,21 @@
 use Prim.Native.Nat.{ℕ, _+_}
 use mathlib.Core.Path.{_≡_, refl, sym, _∙_}
 use mathlib.Core.List.{List}
+use mathlib.Core.Option.{none, some}
 use Rattle.model.specs.declared.Answer.{Answer}
 use Rattle.model.specs.declared.Started.{Started}
-use Rattle.model.specs.declared.Start.the-variants as start
 use Rattle.model.specs.declared.State.{State}
 use Rattle.model.specs.declared.Step.{Step}
 use Rattle.model.specs.declared.Record.the-variants.{Call, Recover}
-use Rattle.model.specs.declared.Refusal.{Refusal}
-use Rattle.model.specs.declared.Outcome.the-variants.{Refused}
 use Rattle.model.specs.declared.Topology.{Topology}
 use Rattle.model.specs.State.{view}
-use Rattle.model.specs.Start.{recover}
+use Rattle.model.specs.Outcome.{line, refused, saidBy, startRefusal}
+use Rattle.model.specs.Start.{recover, lineOr, recoverSaid, stateOr}
 use Rattle.model.specs.Program.{serve, ofAnswer, ofStartup}
 use Rattle.engine.specs.Answers.{Answers}
 use Rattle.engine.specs.Starts.{Starts}
 use Rattle.report.specs.Appends.{Appends}
-use Rattle.report.specs.Text.{outcomeText, recoverText}
+use Rattle.report.specs.Text.{saidLine}
 use Rattle.session.specs.declared.serve.Turn.{Turn}
 use Rattle.session.specs.Serving.{served, Serves}
 
@@ -27,24 +26,24 @@ next turn at s = record { number = turn .number + 1; at = at; state = s }
 module _ (T : Topology) (turn : Turn) {before after : List ℕ} {r : ℕ} where
   pub step-served : (x : Step) (store : List ℕ) (budget : ℕ) {a : Answer} {left : List ℕ}
       → Answers (turn .state) x store budget a left
-      → Appends before (turn .at) (outcomeText (turn .number) (a .outcome) (a .made)) after r
+      → Appends before (turn .at) (saidLine (turn .number) (saidBy (a .outcome)) (a .made)) after r
       → Serves turn (served T turn store budget (Call x)) before after (next turn r (a .state)) left
   unfolding serve ofAnswer
   step-served x store budget m t =
       record { text = rw (← m .outcome, ← m .made) t; number = refl; state = m .state; store = m .store }
 
   module _ (store : List ℕ) (budget : ℕ) {x : Started} (s : Starts (recover T store) x store) where
-    pub recover-served : x .start ≡ start.Ready
-        → Appends before (turn .at) (recoverText (turn .number) (x .state .round .line)) after r
+    pub recover-served : startRefusal (x .start) ≡ none
+        → Appends before (turn .at) (saidLine (turn .number) (line (x .state .round .line)) 0) after r
         → Serves turn (served T turn store budget Recover) before after (next turn r (x .state)) store
-    unfolding serve ofStartup view
+    unfolding serve ofStartup lineOr recoverSaid stateOr view
     recover-served e t =
         rw (sym (s .start) ∙ e)
         (record { text = rw (← s .state) t; number = refl; state = s .state; store = s .store })
 
-    pub recover-refused : {y : Refusal} → x .start ≡ start.Refused y
-        → Appends before (turn .at) (outcomeText (turn .number) (Refused y) 0) after r
+    pub recover-refused : {n : ℕ} → startRefusal (x .start) ≡ some n
+        → Appends before (turn .at) (saidLine (turn .number) (refused n) 0) after r
         → Serves turn (served T turn store budget Recover) before after (next turn r (turn .state)) store
-    unfolding serve ofStartup
+    unfolding serve ofStartup lineOr recoverSaid stateOr
     recover-refused e t =
         rw (sym (s .start) ∙ e) (record { text = t; number = refl; state = refl; store = s .store })

@@ -9,7 +9,7 @@ ghost use mathlib.Core.Option.{none};
 ghost use Prim.Native.Nat.{_≤_};
 ghost use lib.ListN.{drop};
 ghost use Rattle.model.specs.Notation.{tabulate};
-ghost use Rattle.model.specs.Check.{refusalOf};
+ghost use Rattle.model.specs.Outcome.{refusalOf};
 ghost use Rattle.model.specs.Topology.{channelLimit};
 ghost use Rattle.model.specs.Program.{endByte, planOf, planLength, shapeRefusal};
 

@@ -1,6 +1,6 @@
 -- How a call can go. A step is refused, with the state handed in and no writes, or none of its checks fails and it has
 -- its effect (`step-cases`, and back: `accepted-by`). Under a budget, the power is lost within the writes, or it lasts.
--- An initialize or recover that is ready met no refusal.
+-- An initialize or recover is refused as its checks say.
 use Prim.Native.Nat.{ℕ, _<_, _≤_}
 use mathlib.Core.Path.{_≡_, refl}
 use mathlib.Core.Bool.{true}
@@ -12,20 +12,17 @@ use lib.Dec.{ltb}
 use borrow.Author.Tests.{ltb-true, ltb-false, le-ltb, not-false}
 use native.Mathlib.Nat.{min-eq-left, min-eq-right}
 use native.Mathlib.Omega.{arith}
-use Rattle.model.specs.declared.Refusal.{Refusal}
+use Rattle.model.specs.declared.Topology.{Topology}
 use Rattle.model.specs.declared.Step.{Step}
-use Rattle.model.specs.declared.Outcome.the-variants.{Refused, PowerLost}
-use Rattle.model.specs.declared.Start.the-variants.{Ready}
-use Rattle.model.specs.declared.Start.the-variants as start
 use Rattle.model.specs.Check.{firstRefusal}
 use Rattle.model.specs.Layout.{storeCells}
 use Rattle.model.specs.State.{GlobalState}
 use Rattle.model.specs.Sound.{sound}
-use Rattle.model.specs.Outcome.{accepted}
+use Rattle.model.specs.Outcome.{refused, cut, accepted}
 use Rattle.model.specs.Write.{Result, Answered, underBudget, writeAll}
 use Rattle.model.specs.Step.{priorChecks, roomChecks, logChecks, ownChecks, stepChecks, quietly, effect, resultOf}
 use Rattle.model.specs.Step.{step, answer}
-use Rattle.model.specs.Start.{startupOr}
+use Rattle.model.specs.Start.{startupOr, initializeRefusal, initialize, recoverRefusal, recover}
 use Rattle.model.proofs.laws.Tests.{true-is-not-false, Tested, holds, fails, test}
 use Rattle.model.proofs.laws.Passing.{Passed, passed, none-fails, passed-both, Prior, prior}
 
@@ -39,14 +36,14 @@ pub record Accepted (s : GlobalState) (n : ℕ) (x : Step) : Type 0 where
 
 -- A step's two cases.
 pub data Stepped (s : GlobalState) (cells : ℕ) (x : Step) : Type 0 where
-  refused : (r : Refusal) → step s cells x ≡ quietly (Refused r) s → Stepped s cells x
+  stopped : (r : ℕ) → step s cells x ≡ quietly (refused r) s → Stepped s cells x
   passes : Accepted s cells x → step s cells x ≡ effect s x → Stepped s cells x
 
 pub step-cases : (s : GlobalState) (cells : ℕ) (x : Step) → Stepped s cells x
 unfolding stepChecks ownChecks resultOf step
 step-cases s cells x = go (firstRefusal (stepChecks s cells x)) refl
   where
-    go : (o : Option Refusal) → firstRefusal (stepChecks s cells x) ≡ o → Stepped s cells x
+    go : (o : Option ℕ) → firstRefusal (stepChecks s cells x) ≡ o → Stepped s cells x
     go none e =
         let (sounds, (long, own)) = passed (stepChecks s cells x) e in
         let (first, rest) = passed-both (priorChecks s x) (roomChecks s x ++ logChecks s x) own in
@@ -60,13 +57,13 @@ step-cases s cells x = go (firstRefusal (stepChecks s cells x)) refl
           logs = logs;
         })
         (rw e)
-    go (some r) e = refused r (rw e)
+    go (some r) e = stopped r (rw e)
 
 -- A budget's two cases.
 pub data Powered (budget : ℕ) (s : GlobalState) (store : List ℕ) (r : Result) : Type 0 where
   lost : budget < length (r .writes)
       → underBudget budget s store r
-      ≡ record { outcome = PowerLost; made = budget; state = s; store = writeAll store (take budget (r .writes)) }
+      ≡ record { outcome = cut; made = budget; state = s; store = writeAll store (take budget (r .writes)) }
       → Powered budget s store r
   lasts : length (r .writes) ≤ budget
       → underBudget budget s store r
@@ -127,22 +124,29 @@ accepted-passes s x store budget ok = go (step-cases s (length store) x)
     powered a e (lasts l q) = (a, rw e q)
 
     go : Stepped s (length store) x → Found
-    go (refused r e) = none (power-cases budget s store (quietly (Refused r) s))
+    go (stopped r e) = none (power-cases budget s store (quietly (refused r) s))
       where
-        none : Powered budget s store (quietly (Refused r) s) → Found
+        none : Powered budget s store (quietly (refused r) s) → Found
         none (lost l q) = true-is-not-false ok (rw (e, q))
         none (lasts l q) = true-is-not-false ok (rw (e, q))
     go (passes a e) = powered a e (power-cases budget s store (effect s x))
 
--- an accepted initialize or recover has no refusal; one that is turned down has that refusal and leaves the store
-pub ready : (o : Option Refusal) (s : GlobalState) (after before : List ℕ) → startupOr o s after before .start ≡ Ready
-    → o ≡ none
+-- what an initialize or a recover is refused with is what its checks say; and where it is refused, the store is left
+refusal-is : (o : Option ℕ) (s : GlobalState) (after before : List ℕ) → startupOr o s after before .refusal ≡ o
 unfolding startupOr
-ready none s after before e = refl
-ready (some r) s after before e = cc
+refusal-is none s after before = refl
+refusal-is (some n) s after before = refl
 
-pub not-ready : (o : Option Refusal) (s : GlobalState) (after before : List ℕ) {r : Refusal}
-    → startupOr o s after before .start ≡ start.Refused r → (o ≡ some r) × (startupOr o s after before .store ≡ before)
-unfolding startupOr
-not-ready none s after before e = (cc, cc)
-not-ready (some x) s after before e = (cc, refl)
+pub initialize-refusal : (T : Topology) (store : List ℕ)
+    → initialize T store .refusal ≡ initializeRefusal T (length store)
+unfolding initialize
+initialize-refusal T store = refusal-is (initializeRefusal T (length store)) _ _ _
+
+pub recover-refusal : (T : Topology) (store : List ℕ) → recover T store .refusal ≡ recoverRefusal T store
+unfolding recover
+recover-refusal T store = refusal-is (recoverRefusal T store) _ _ _
+
+pub refused-leaves : (T : Topology) (store : List ℕ) {n : ℕ} → initializeRefusal T (length store) ≡ some n
+    → initialize T store .store ≡ store
+unfolding initialize startupOr
+refused-leaves T store e = rw e

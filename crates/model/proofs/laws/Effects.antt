@@ -11,22 +11,19 @@ use Rattle.model.specs.declared.Entry.the-variants.{Message, Marker}
 use Rattle.model.specs.declared.Step.{Step}
 use Rattle.model.specs.declared.Step.the-variants.{Send, Receive, Begin, PhysicalCheckpoint}
 use Rattle.model.specs.declared.Step.the-variants.{LogicalCheckpoint, SendMarker, Commit, Abort}
-use Rattle.model.specs.declared.Outcome.{Outcome}
-use Rattle.model.specs.declared.Outcome.the-variants.{Refused, PowerLost}
-use Rattle.model.specs.declared.Refusal.{Refusal}
 use Rattle.model.specs.Topology.{receiver}
 use Rattle.model.specs.State.{GlobalState, raisedAll}
 use Rattle.model.specs.Change.{withRound, withWord, withTag, withChannel, withProgress, withCounts, inPhase}
 use Rattle.model.specs.Change.{setEntries}
 use Rattle.model.specs.Change.{enterBody, logicalCheckpoint, close, recordSent, endRound}
-use Rattle.model.specs.Outcome.{accepted}
+use Rattle.model.specs.Outcome.{Said, refused, cut, accepted}
 use Rattle.model.specs.Write.{Answered, underBudget}
 use Rattle.model.specs.Receive.{Reaction}
 use Rattle.model.specs.Step.{quietly, nextLine, reaction, react, receivedOutcome, receive, afterPhysical, effect}
 use Rattle.model.specs.Step.{step, answer}
 use Rattle.model.specs.Run.{isCommit, countCommit}
 use Rattle.model.proofs.laws.Tests.{either}
-use Rattle.model.proofs.laws.Calls.{Stepped, refused, passes, step-cases, Powered, lost, lasts, power-cases}
+use Rattle.model.proofs.laws.Calls.{Stepped, stopped, passes, step-cases, Powered, lost, lasts, power-cases}
 
 pub received-accepted : (e : Entry) → accepted (receivedOutcome e) ≡ true
 unfolding accepted receivedOutcome
@@ -97,7 +94,7 @@ effect-follows s Commit = record { topology = refl; line = refl }
 effect-follows s Abort = record { topology = refl; line = refl }
 
 -- a call that is not accepted is no commit
-no-commit : (x : Step) (o : Outcome) (n : ℕ) → accepted o ≡ false → countCommit x o n ≡ n
+no-commit : (x : Step) (o : Said) (n : ℕ) → accepted o ≡ false → countCommit x o n ≡ n
 unfolding countCommit
 no-commit x o n e = either (λ (m : ℕ). m ≡ n) (isCommit x) _ _ (rw e) refl
 
@@ -109,18 +106,18 @@ answer-follows s x store budget = go (step-cases s (length store) x)
     After : Answered → Type 0
     After a = Follows s (a .state) (countCommit x (a .outcome) (s .round .line))
 
-    stays : (o : Outcome) → accepted o ≡ false → Follows s s (countCommit x o (s .round .line))
+    stays : (o : Said) → accepted o ≡ false → Follows s s (countCommit x o (s .round .line))
     stays o e = record { topology = refl; line = sym (no-commit x o (s .round .line) e) }
 
-    refuses : (r : Refusal) → Powered budget s store (quietly (Refused r) s)
-        → After (underBudget budget s store (quietly (Refused r) s))
+    refuses : (r : ℕ) → Powered budget s store (quietly (refused r) s)
+        → After (underBudget budget s store (quietly (refused r) s))
     refuses r (lost l q) = absurd (omega arith)
-    refuses r (lasts l q) = subst After (sym q) (stays (Refused r) refl)
+    refuses r (lasts l q) = subst After (sym q) (stays (refused r) refl)
 
     does : Powered budget s store (effect s x) → After (underBudget budget s store (effect s x))
-    does (lost l q) = subst After (sym q) (stays PowerLost refl)
+    does (lost l q) = subst After (sym q) (stays cut refl)
     does (lasts l q) = subst After (sym q) (effect-follows s x)
 
     go : Stepped s (length store) x → After (underBudget budget s store (step s (length store) x))
-    go (refused r e) = rw e (refuses r (power-cases budget s store (quietly (Refused r) s)))
+    go (stopped r e) = rw e (refuses r (power-cases budget s store (quietly (refused r) s)))
     go (passes a e) = rw e (does (power-cases budget s store (effect s x)))

@@ -6,7 +6,6 @@ use mathlib.Core.Option.{Option, none, some}
 use lib.ListN.{length}
 use borrow.Author.Tests.{leb-true, le-leb}
 use Rattle.model.specs.declared.Topology.{Topology}
-use Rattle.model.specs.declared.Refusal.{Refusal}
 use Rattle.model.specs.Check.{accepts}
 use Rattle.model.specs.Topology.{topologyRefusal}
 use Rattle.model.specs.Channel.{channelRoom}
@@ -29,7 +28,7 @@ pub record Sound (s : GlobalState) : Type 0 where
   pub phase : phaseSound (s .topology) (s .round .phase) ≡ true
   pub line : lineSound (s .round) ≡ true
 
-accepts-none : (o : Option Refusal) → accepts o ≡ true → o ≡ none
+accepts-none : (o : Option ℕ) → accepts o ≡ true → o ≡ none
 unfolding accepts
 accepts-none none e = refl
 accepts-none (some r) e = true-is-not-false e refl

@@ -11,7 +11,6 @@ use borrow.Author.Tests.{le-leb, le-ltb, lt-ltb}
 use native.Mathlib.Omega.{arith}
 use native.Mathlib.Nat.{le-refl}
 use Rattle.model.specs.declared.Topology.{Topology}
-use Rattle.model.specs.declared.Start.the-variants.{Ready}
 use Rattle.model.specs.Notation.{tabulate, orElse}
 use Rattle.model.specs.Check.{firstRefusal}
 use Rattle.model.specs.Word.{replay}
@@ -28,7 +27,7 @@ use Rattle.model.specs.History.{onRecover}
 use Rattle.model.specs.Claim.{Recovered}
 use Rattle.model.proofs.laws.Tests.{and-both}
 use Rattle.model.proofs.laws.Lists.{all-of}
-use Rattle.model.proofs.laws.Calls.{ready}
+use Rattle.model.proofs.laws.Calls.{initialize-refusal}
 use Rattle.model.proofs.laws.ChannelLaws.{bodies-messages, messages-markerless}
 use Rattle.model.proofs.laws.HistoryLaws.{wordOf}
 use Rattle.model.proofs.store.Sizes.{admitted, sized-start, sized-after}
@@ -66,7 +65,7 @@ module _ (s : GlobalState) (st : List ℕ) (h : History) (good : topologyRefusal
     abbrev recovered : GlobalState
     recovered = idleState T k (recoveredWord T st) (recoveredChannel T st)
 
-    recover-is : recover T st ≡ record { start = Ready; state = recovered; store = st }
+    recover-is : recover T st ≡ record { refusal = none; state = recovered; store = st }
     unfolding recover startupOr
     recover-is = rw (not-refused, line-is)
 
@@ -141,10 +140,9 @@ module _ (s : GlobalState) (st : List ℕ) (h : History) (good : topologyRefusal
     pub recovered-store : recover T st .store ≡ st
     recovered-store = ap (λ (r : Startup). r .store) recover-is
 
-module _ (T : Topology) (store : List ℕ) (accepted : initialize T store .start ≡ Ready) where
+module _ (T : Topology) (store : List ℕ) (accepted : initialize T store .refusal ≡ none) where
   no-refusal : initializeRefusal T (length store) ≡ none
-  unfolding initialize
-  no-refusal = ready _ _ _ _ accepted
+  no-refusal = sym (initialize-refusal T store) ∙ accepted
 
   pub topology-accepted : topologyRefusal T ≡ none
   topology-accepted = admitted T (length store) no-refusal .0
@@ -152,7 +150,7 @@ module _ (T : Topology) (store : List ℕ) (accepted : initialize T store .start
   abbrev after : List ℕ
   after = writeAll store (initializeWrites T)
 
-  initialize-is : initialize T store ≡ record { start = Ready; state = idleState T 0 (λ p. 0) (λ c. []); store = after }
+  initialize-is : initialize T store ≡ record { refusal = none; state = idleState T 0 (λ p. 0) (λ c. []); store = after }
   unfolding initialize startupOr
   initialize-is = rw no-refusal
 

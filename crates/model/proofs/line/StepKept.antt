@@ -11,17 +11,14 @@ use Rattle.model.specs.declared.Topology.{Topology}
 use Rattle.model.specs.declared.Step.{Step}
 use Rattle.model.specs.declared.Step.the-variants.{Send, Receive, Begin, PhysicalCheckpoint}
 use Rattle.model.specs.declared.Step.the-variants.{LogicalCheckpoint, SendMarker, Commit, Abort}
-use Rattle.model.specs.declared.Refusal.{Refusal}
-use Rattle.model.specs.declared.Outcome.{Outcome}
-use Rattle.model.specs.declared.Outcome.the-variants.{Refused, PowerLost}
 use Rattle.model.specs.Topology.{topologyRefusal}
 use Rattle.model.specs.State.{GlobalState}
-use Rattle.model.specs.Outcome.{accepted}
+use Rattle.model.specs.Outcome.{Said, refused, cut, accepted}
 use Rattle.model.specs.Write.{Answered, Result, writeAll, underBudget}
 use Rattle.model.specs.Step.{logChecks, effect, quietly, step, answer}
 use Rattle.model.specs.History.{History, onStep, onAccepted}
 use Rattle.model.proofs.laws.Passing.{Passed, Prior}
-use Rattle.model.proofs.laws.Calls.{Stepped, refused, passes, step-cases, Powered, lost, lasts, power-cases}
+use Rattle.model.proofs.laws.Calls.{Stepped, stopped, passes, step-cases, Powered, lost, lasts, power-cases}
 use Rattle.model.proofs.laws.SoundLaws.{Fits, sound-facts}
 use Rattle.model.proofs.laws.TopologyLaws.{sender-planned, receiver-planned}
 use Rattle.model.proofs.line.Invariant.{EndsPlanned, Inv, KeepsBy, Keeps}
@@ -63,7 +60,7 @@ module _ (s : GlobalState) (st : List ℕ) (h : History) (i : Inv s st h) where
   After x a = Inv (a .state) (a .store) (onStep (s .topology) x (a .outcome) h)
 
   -- a call that is not accepted tells the histories nothing
-  unheard : (x : Step) (o : Outcome) (y : List ℕ) → accepted o ≡ false → Inv s y h
+  unheard : (x : Step) (o : Said) (y : List ℕ) → accepted o ≡ false → Inv s y h
       → Inv s y (onStep (s .topology) x o h)
   unfolding onStep
   unheard x o y e k = rw e k
@@ -72,19 +69,19 @@ module _ (s : GlobalState) (st : List ℕ) (h : History) (i : Inv s st h) where
   unfolding answer quietly accepted writeAll
   step-kept x budget = go (step-cases s (length st) x)
     where
-      refused-kept : (r : Refusal) → Powered budget s st (quietly (Refused r) s)
-          → After x (underBudget budget s st (quietly (Refused r) s))
+      refused-kept : (r : ℕ) → Powered budget s st (quietly (refused r) s)
+          → After x (underBudget budget s st (quietly (refused r) s))
       refused-kept r (lost l q) = absurd (omega arith)
-      refused-kept r (lasts l q) = subst (After x) (sym q) (unheard x (Refused r) st refl i)
+      refused-kept r (lasts l q) = subst (After x) (sym q) (unheard x (refused r) st refl i)
 
       powered : Keeps s st h x → Powered budget s st (effect s x) → After x (underBudget budget s st (effect s x))
-      powered kept (lost l q) = subst (After x) (sym q) (unheard x PowerLost _ refl (kept .lost budget l))
+      powered kept (lost l q) = subst (After x) (sym q) (unheard x cut _ refl (kept .lost budget l))
       powered kept (lasts l q) = subst (After x) (sym q) (kept .lasts)
 
       go : Stepped s (length st) x → After x (underBudget budget s st (step s (length st) x))
-      go (refused r e) =
+      go (stopped r e) =
           subst (λ (y : Result). After x (underBudget budget s st y)) (sym e)
-          (refused-kept r (power-cases budget s st (quietly (Refused r) s)))
+          (refused-kept r (power-cases budget s st (quietly (refused r) s)))
       go (passes a e) =
           let fit = sound-facts s (a .fit) in
           subst (λ (y : Result). After x (underBudget budget s st y)) (sym e)

@@ -7,7 +7,6 @@ use lib.ListN.{length}
 use lib.Dec.{ltb}
 use borrow.Author.Tests.{ltb-false}
 use Rattle.model.specs.declared.Topology.{Topology}
-use Rattle.model.specs.declared.Refusal.the-variants.{ShortStore}
 use Rattle.model.specs.Check.{Check, _⇒_, firstRefusal}
 use Rattle.model.specs.Topology.{processLimit, channelLimit, topologyRefusal}
 use Rattle.model.specs.Layout.{storeCells}
@@ -32,7 +31,7 @@ pub admitted : (T : Topology) (cells : ℕ) → initializeRefusal T cells ≡ no
     → (topologyRefusal T ≡ none) × (storeCells ≤ cells)
 unfolding initializeRefusal
 admitted T cells e =
-    let check : List Check = (ltb cells storeCells ⇒ ShortStore) ∷ [] in
+    let check : List Check = (ltb cells storeCells ⇒ 6) ∷ [] in
     let (topology, long) = or-else-none (topologyRefusal T) (firstRefusal check) e in
     (topology, ltb-false cells storeCells (passed check long .0))
 

@@ -1,13 +1,14 @@
 -- `report::recover_line` meets its contract.
 use borrow.Author.Needs.{needs}
-use Rattle.report.specs.Text.{saidText, lineText}
+use Rattle.model.specs.Outcome.{saidValues}
+use Rattle.report.specs.Text.{saidName, saidText, lineText}
 use Rattle.report.proofs.Appending.{_then_}
 use Rattle.report.proofs.Texts.{recover-text}
 use Rattle.report.proofs.recover_line.Statement.{statement}
 use Rattle.report.proofs.recover_line.Tie as tie
 
 returns : tie.Need-returns
-unfolding saidText lineText
+unfolding saidValues saidName saidText lineText
 returns c =
     let made = c .before .before in
     let line = made .before .before .before .before in

@@ -1,32 +1,32 @@
 -- `report::said` meets its contract, for each outcome.
 use borrow.Author.Needs.{needs}
-use Rattle.model.specs.Outcome.{outcomeValues}
-use Rattle.report.specs.Text.{values, outcomeName, saidText}
+use Rattle.model.specs.Outcome.{saidValues}
+use Rattle.report.specs.Text.{values, saidName, saidText}
 use Rattle.report.proofs.Appending.{_then_}
 use Rattle.report.proofs.said.Statement.{statement}
 use Rattle.report.proofs.said.Tie as tie
 
 done : tie.Need-returns
-unfolding values outcomeName outcomeValues saidText
+unfolding values saidName saidValues saidText
 done c =
     let name = c .before .before in
     rw (name .before .before .before .enum-told .given .1) (name .bytes .ensures)
 
 received : tie.Need-returns-2
-unfolding outcomeName outcomeValues saidText
+unfolding saidName saidValues saidText
 received c =
     let body = c .before .before in
     let name = body .before .before .before .before in
     rw (name .before .before .before .before .outcome .given .1) (name .bytes2 .ensures then body .value .ensures)
 
 marker : tie.Need-returns-3
-unfolding values outcomeName outcomeValues saidText
+unfolding values saidName saidValues saidText
 marker c =
     let name = c .before .before in
     rw (name .before .before .before .enum-told2 .given .1) (name .bytes3 .ensures)
 
 refused : tie.Need-returns-4
-unfolding outcomeName outcomeValues saidText
+unfolding saidName saidValues saidText
 refused c =
     let number = c .before .before in
     let name = number .before .before .before .before .before in
@@ -34,7 +34,7 @@ refused c =
     (name .bytes4 .ensures then number .value2 .ensures)
 
 lost : tie.Need-returns-5
-unfolding values outcomeName outcomeValues saidText
+unfolding values saidName saidValues saidText
 lost c =
     let name = c .before .before in
     rw (name .before .before .before .enum-told3 .given .1) (name .bytes5 .ensures)

@@ -2,13 +2,12 @@
 use borrow.Author.Needs.{needs}
 use native.Mathlib.Omega.{arith}
 use Prim.Native.Nat.{ℕ}
-use mathlib.Core.Path.{_≡_, sym, _∙_}
+use mathlib.Core.Path.{_≡_, sym, ap, _∙_}
 use mathlib.Core.List.{List}
 use lib.ListN.{length}
 use Rattle.model.specs.declared.Record.{Record}
 use Rattle.model.specs.Record.{AreBytes, readRecord}
-use Rattle.record.specs.declared.Reading.the-variants.{Read}
-use Rattle.record.specs.Reading.{answered, remaining}
+use Rattle.record.specs.Reading.{gives, saysOf, answered, remaining}
 use Rattle.record.specs.Written.{bytesOf, written}
 use Rattle.model.proofs.laws.RecordLaws.{later-bytes}
 use Rattle.record.proofs.ReadsBack.{read-writes, read-shortens}
@@ -22,7 +21,7 @@ abbrev μ-loop : tie.MeasureT-loop
 μ-loop sum bytes r₀ left₀ r left = length left
 
 -- the bytes after a record that was read
-rest-bytes : (bytes : List ℕ) (r : Record) → AreBytes bytes → answered (readRecord bytes) ≡ Read r
+rest-bytes : (bytes : List ℕ) (r : Record) → AreBytes bytes → answered (readRecord bytes) ≡ gives r
     → AreBytes (remaining (readRecord bytes) bytes)
 rest-bytes bytes r h e =
     later-bytes (bytesOf (written r)) (remaining (readRecord bytes) bytes) (read-writes bytes r h e) h
@@ -33,10 +32,10 @@ module _ (c : tie.After-rest Inv-loop μ-loop) where
   at-loop = c .before .before .before .before .before .before .before .before
 
   answer : answered (readRecord (at-loop .loop .left .now))
-      ≡ Read (c .before .before .before .before .found .given .0 .0)
+      ≡ gives (c .before .before .before .before .found .given .0 .0)
   answer =
       let f = c .before .before .before .before in
-      sym (f .before .before .read .ensures) ∙ f .found .given .1
+      sym (f .before .before .read .ensures) ∙ ap saysOf (f .found .given .1)
 
 loop-less : tie.Need-loop-less Inv-loop μ-loop
 loop-less c =

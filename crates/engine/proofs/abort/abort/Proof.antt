@@ -11,7 +11,6 @@ use lib.ListN.{length, length-set}
 use Rattle.model.specs.declared.Entry.{Entry}
 use Rattle.model.specs.declared.State.{State}
 use Rattle.model.specs.declared.Step.the-variants.{Abort}
-use Rattle.model.specs.declared.Refusal.the-variants.{NotNow}
 use Rattle.model.specs.Check.{firstRefusal}
 use Rattle.model.specs.Topology.{channelLimit}
 use Rattle.model.specs.Channel.{bodies, messages}
@@ -29,7 +28,7 @@ use Rattle.engine.proofs.abort.abort.Tie as tie
 
 -- what its check says
 module _ (s : State) where
-  not-now : isIdle (s .round .phase) ≡ true → firstRefusal (ownChecks (view s) Abort) ≡ some NotNow
+  not-now : isIdle (s .round .phase) ≡ true → firstRefusal (ownChecks (view s) Abort) ≡ some 12
   unfolding ownChecks priorChecks roomChecks logChecks firstRefusal view
   not-now t = rw t
 

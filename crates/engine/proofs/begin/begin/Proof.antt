@@ -29,12 +29,12 @@ use Rattle.engine.proofs.begin.begin.Tie as tie
 
 -- what its checks say
 module _ (s : State) where
-  not-now : isIdle (s .round .phase) ≡ false → firstRefusal (ownChecks (view s) Begin) ≡ some NotNow
+  not-now : isIdle (s .round .phase) ≡ false → firstRefusal (ownChecks (view s) Begin) ≡ some 12
   unfolding ownChecks priorChecks roomChecks logChecks firstRefusal view
   not-now e = rw e
 
   last-line : isIdle (s .round .phase) ≡ true → s .round .line ≡ lastLine
-      → firstRefusal (ownChecks (view s) Begin) ≡ some LastLine
+      → firstRefusal (ownChecks (view s) Begin) ≡ some 13
   unfolding ownChecks priorChecks roomChecks logChecks firstRefusal view
   last-line e l = rw (e, eq-eqb (s .round .line) lastLine l)
 

@@ -29,7 +29,7 @@ use Rattle.engine.proofs.commit.commit.Tie as tie
 
 -- what its check says
 module _ (s : State) where
-  not-now : mayCommit (view s) ≡ false → firstRefusal (ownChecks (view s) Commit) ≡ some NotNow
+  not-now : mayCommit (view s) ≡ false → firstRefusal (ownChecks (view s) Commit) ≡ some 12
   unfolding ownChecks priorChecks roomChecks logChecks firstRefusal
   not-now e = rw e
 

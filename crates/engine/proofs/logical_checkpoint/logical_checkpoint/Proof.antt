@@ -8,7 +8,6 @@ use mathlib.Core.Bool.{true, false}
 use mathlib.Core.Option.{none, some}
 use Rattle.model.specs.declared.State.{State}
 use Rattle.model.specs.declared.Step.the-variants.{LogicalCheckpoint}
-use Rattle.model.specs.declared.Refusal.the-variants.{NoSuch, NotNow}
 use Rattle.model.specs.Check.{firstRefusal}
 use Rattle.model.specs.Topology.{processLimit, hasProcess}
 use Rattle.model.specs.State.{viewProgress, view}
@@ -22,14 +21,14 @@ use Rattle.engine.proofs.logical_checkpoint.logical_checkpoint.Tie as t
 
 -- what its checks say
 module _ (s : State) (p : ℕ) where
-  missing : s .topology .processes ≤ p → firstRefusal (ownChecks (view s) (LogicalCheckpoint p)) ≡ some NoSuch
+  missing : s .topology .processes ≤ p → firstRefusal (ownChecks (view s) (LogicalCheckpoint p)) ≡ some 8
   unfolding ownChecks priorChecks roomChecks logChecks hasProcess firstRefusal view
   missing l = rw (le-ltb p (s .topology .processes) l)
 
   -- of a process of the topology
   module _ (l : p < s .topology .processes) where
     not-now : mayCheckpointLogically (view s) p ≡ false
-        → firstRefusal (ownChecks (view s) (LogicalCheckpoint p)) ≡ some NotNow
+        → firstRefusal (ownChecks (view s) (LogicalCheckpoint p)) ≡ some 12
     unfolding ownChecks priorChecks roomChecks logChecks hasProcess firstRefusal view
     not-now t = rw (lt-ltb p (s .topology .processes) l, t)
 

@@ -33,13 +33,13 @@ use Rattle.engine.proofs.physical_checkpoint.physical_checkpoint.Tie as
 
 -- what its checks say
 module _ (s : State) (p : ℕ) where
-  missing : s .topology .processes ≤ p → firstRefusal (ownChecks (view s) (PhysicalCheckpoint p)) ≡ some NoSuch
+  missing : s .topology .processes ≤ p → firstRefusal (ownChecks (view s) (PhysicalCheckpoint p)) ≡ some 8
   unfolding ownChecks priorChecks roomChecks logChecks hasProcess firstRefusal view
   missing l = rw (le-ltb p (s .topology .processes) l)
 
   module _ (l : p < s .topology .processes) where
     not-now : isNext (s .round .phase) p ≡ false
-        → firstRefusal (ownChecks (view s) (PhysicalCheckpoint p)) ≡ some NotNow
+        → firstRefusal (ownChecks (view s) (PhysicalCheckpoint p)) ≡ some 12
     unfolding ownChecks priorChecks roomChecks logChecks hasProcess firstRefusal view
     not-now e = rw (lt-ltb p (s .topology .processes) l, e)
 

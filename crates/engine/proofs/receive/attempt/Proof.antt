@@ -7,7 +7,8 @@ use denote.Ref.{now}
 use lib.ListN.{length, take}
 use Rattle.model.specs.Channel.{bodyOf}
 use Rattle.model.specs.Write.{Write, writeAll}
-use Rattle.model.specs.Check.{refusalOf, firstRefusal}
+use Rattle.model.specs.Check.{firstRefusal}
+use Rattle.model.specs.Outcome.{refusalOf}
 use Rattle.model.proofs.laws.Passing.{passed}
 use Rattle.engine.specs.Receiving.{receiveChecks, bodyWrites}
 use Rattle.engine.proofs.Receptions.{attempt-refused, attempt-lost, attempt-done}

@@ -4,7 +4,8 @@ use borrow.Author.Tests.{eq-eqb, ne-eqb}
 use mathlib.Core.Path.{_≡_, _∙_}
 use mathlib.Core.Bool.{true, false}
 use lib.Dec.{eqb}
-use Rattle.model.specs.Check.{refusalOf, firstRefusal}
+use Rattle.model.specs.Check.{firstRefusal}
+use Rattle.model.specs.Outcome.{refusalOf}
 use Rattle.engine.specs.Receiving.{full}
 use Rattle.engine.proofs.Receptions.{full-test}
 use Rattle.engine.proofs.receive.check.Statement.{statement}

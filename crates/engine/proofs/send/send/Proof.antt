@@ -13,8 +13,7 @@ use Rattle.model.specs.declared.Entry.{Entry}
 use Rattle.model.specs.declared.Entry.the-variants.{Message}
 use Rattle.model.specs.declared.State.{State}
 use Rattle.model.specs.declared.Step.the-variants.{Send}
-use Rattle.model.specs.declared.Outcome.the-variants.{Done}
-use Rattle.model.specs.declared.Refusal.the-variants.{NoSuch, ChannelFull}
+use Rattle.model.specs.Outcome as says
 use Rattle.model.specs.Check.{firstRefusal}
 use Rattle.model.specs.Topology.{processLimit, channelLimit, sender, hasChannel}
 use Rattle.model.specs.Channel.{channelRoom, entries, noRoom, noRoomForMessage}
@@ -31,13 +30,13 @@ use Rattle.engine.proofs.send.send.Tie as tie
 
 -- what its checks say, by what the code reads of the state
 module _ (s : State) (c b : ℕ) where
-  missing : s .topology .channels ≤ c → firstRefusal (ownChecks (view s) (Send c b)) ≡ some NoSuch
+  missing : s .topology .channels ≤ c → firstRefusal (ownChecks (view s) (Send c b)) ≡ some 8
   unfolding ownChecks priorChecks roomChecks logChecks hasChannel firstRefusal view
   missing l = rw (le-ltb c (s .topology .channels) l)
 
   -- on a channel of the topology, whose places are those of x
   module _ (l : c < s .topology .channels) (x : Channel) (e : view s .channel c ≡ entries x) where
-    full : channelRoom ≤ x .count → firstRefusal (ownChecks (view s) (Send c b)) ≡ some ChannelFull
+    full : channelRoom ≤ x .count → firstRefusal (ownChecks (view s) (Send c b)) ≡ some 9
     unfolding ownChecks priorChecks roomChecks logChecks hasChannel noRoomForMessage noRoom firstRefusal view
     full k = rw (lt-ltb c (s .topology .channels) l, e, entries-count x, le-leb channelRoom (x .count) k)
 
@@ -46,7 +45,7 @@ module _ (s : State) (c b : ℕ) where
     passed k = rw (lt-ltb c (s .topology .channels) l, e, entries-count x, lt-leb channelRoom (x .count) k)
 
     done : effect (view s) (Send c b)
-        ≡ quietly Done
+        ≡ quietly says.done
         (setEntries c (entries x ++ (Message b (getD (s .tags) (getD (s .topology .from) c 0) false) ∷ [])) (view s))
     unfolding effect sender view
     done = rw e

@@ -13,8 +13,7 @@ use Rattle.model.specs.declared.Entry.{Entry}
 use Rattle.model.specs.declared.Entry.the-variants.{Marker}
 use Rattle.model.specs.declared.State.{State}
 use Rattle.model.specs.declared.Step.the-variants.{SendMarker}
-use Rattle.model.specs.declared.Outcome.the-variants.{Done}
-use Rattle.model.specs.declared.Refusal.the-variants.{NoSuch, NotNow, ChannelFull}
+use Rattle.model.specs.Outcome as says
 use Rattle.model.specs.Check.{firstRefusal}
 use Rattle.model.specs.Topology.{processLimit, channelLimit, sender, hasChannel}
 use Rattle.model.specs.Channel.{channelRoom, entries, noRoom, noRoomForMarker}
@@ -31,19 +30,19 @@ use Rattle.engine.proofs.send_marker.send_marker.Tie as tie
 
 -- what its checks say, by what the code reads of the state
 module _ (s : State) (c : ℕ) where
-  missing : s .topology .channels ≤ c → firstRefusal (ownChecks (view s) (SendMarker c)) ≡ some NoSuch
+  missing : s .topology .channels ≤ c → firstRefusal (ownChecks (view s) (SendMarker c)) ≡ some 8
   unfolding ownChecks priorChecks roomChecks logChecks hasChannel firstRefusal view
   missing l = rw (le-ltb c (s .topology .channels) l)
 
   -- on a channel of the topology
   module _ (l : c < s .topology .channels) where
-    not-now : maySendMarker (view s) c ≡ false → firstRefusal (ownChecks (view s) (SendMarker c)) ≡ some NotNow
+    not-now : maySendMarker (view s) c ≡ false → firstRefusal (ownChecks (view s) (SendMarker c)) ≡ some 12
     unfolding ownChecks priorChecks roomChecks logChecks hasChannel firstRefusal view
     not-now t = rw (lt-ltb c (s .topology .channels) l, t)
 
     -- where it may be sent, and the channel's places are those of x
     module _ (t : maySendMarker (view s) c ≡ true) (x : Channel) (e : view s .channel c ≡ entries x) where
-      full : channelRoom ≤ x .count → firstRefusal (ownChecks (view s) (SendMarker c)) ≡ some ChannelFull
+      full : channelRoom ≤ x .count → firstRefusal (ownChecks (view s) (SendMarker c)) ≡ some 9
       unfolding ownChecks priorChecks roomChecks logChecks hasChannel noRoomForMarker noRoom firstRefusal view
       full k = rw (lt-ltb c (s .topology .channels) l, t, e, entries-count x, le-leb channelRoom (x .count) k)
 
@@ -52,7 +51,7 @@ module _ (s : State) (c : ℕ) where
       passed k = rw (lt-ltb c (s .topology .channels) l, t, e, entries-count x, lt-leb channelRoom (x .count) k)
 
       done : effect (view s) (SendMarker c)
-          ≡ quietly Done (recordSent c (setEntries c (entries x ++ (Marker ∷ [])) (view s)))
+          ≡ quietly says.done (recordSent c (setEntries c (entries x ++ (Marker ∷ [])) (view s)))
       unfolding effect view
       done = rw e
 

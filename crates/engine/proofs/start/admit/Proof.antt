@@ -2,7 +2,8 @@
 use borrow.Author.Needs.{needs}
 use borrow.Author.Tests.{lt-ltb, le-ltb}
 use Rattle.model.specs.Notation.{orElse}
-use Rattle.model.specs.Check.{refusalOf, firstRefusal}
+use Rattle.model.specs.Check.{firstRefusal}
+use Rattle.model.specs.Outcome.{refusalOf}
 use Rattle.model.specs.Start.{initializeRefusal}
 use Rattle.engine.proofs.start.admit.Statement.{statement}
 use Rattle.engine.proofs.start.admit.Tie as tie

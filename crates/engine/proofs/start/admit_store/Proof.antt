@@ -2,7 +2,8 @@
 use mathlib.Core.Path.{sym, ap, _∙_}
 use borrow.Author.Needs.{needs}
 use Rattle.model.specs.Notation.{orElse}
-use Rattle.model.specs.Check.{refusalOf, firstRefusal}
+use Rattle.model.specs.Check.{firstRefusal}
+use Rattle.model.specs.Outcome.{refusalOf}
 use Rattle.model.specs.Start.{recoverRefusal}
 use Rattle.engine.proofs.start.admit_store.Statement.{statement}
 use Rattle.engine.proofs.start.admit_store.Tie as tie

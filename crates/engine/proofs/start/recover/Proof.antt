@@ -5,7 +5,7 @@ use borrow.Author.Needs.{needs}
 use native.Mathlib.Omega.{arith}
 use Rattle.model.specs.Layout.{cell}
 use Rattle.model.specs.Start.{recover, recoverRefusal, storedLine}
-use Rattle.model.specs.Check.{refusalOf}
+use Rattle.model.specs.Outcome.{refusalOf}
 use Rattle.engine.proofs.Recovering.{starts-ready, starts-refused}
 use Rattle.engine.proofs.Recovering.{readable}
 use Rattle.engine.proofs.start.recover.Statement.{statement}

@@ -77,9 +77,8 @@ all c =
           (channel-read h .byte2 .ensures) (h .before .channel .given .1)
           (body-read b .body .ensures) (b .before .body2 .given .1),
       c .whole .ensures,
-      c .before .record-of .ensures,
     )
-    (whole-parses _ _ (value-within (body-read b .body .ensures) (b .before .body2 .given .1) .next))
+    (whole-parses _ _ _ (c .before .record-of .ensures) (value-within (body-read b .body .ensures) (b .before .body2 .given .1) .next))
 
 pub fields-spec : {M : Type 1} → statement M
 fields-spec =

@@ -13,7 +13,8 @@ use lib.Dec.{leb}
 use Rattle.model.specs.declared.State.{State}
 use Rattle.model.specs.declared.Channel.{Channel}
 use Rattle.model.specs.Notation.{allBelow, allTrue}
-use Rattle.model.specs.Check.{accepts, refusalOf}
+use Rattle.model.specs.Check.{accepts}
+use Rattle.model.specs.Outcome.{refusalOf}
 use Rattle.model.specs.Topology.{channelLimit, topologyRefusal}
 use Rattle.model.specs.Channel.{channelRoom}
 use Rattle.model.specs.State.{view, viewCounts, emptyChannel}

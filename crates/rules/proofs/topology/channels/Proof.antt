@@ -9,11 +9,9 @@ use native.Mathlib.Omega.{arith}
 use borrow.Author.Tests.{leb-true, leb-false}
 use lib.ListN.{getD}
 use Rattle.model.specs.declared.Topology.{Topology}
-use Rattle.model.specs.declared.Refusal.{Refusal}
-use Rattle.model.specs.declared.Refusal.the-variants.{UnknownEnd, SelfChannel, DoubledChannel}
 use Rattle.model.specs.Notation.{firstBelow}
 use Rattle.model.specs.Topology.{sender, receiver, channelRefusal, channelsRefusal}
-use Rattle.model.specs.Check.{refusalOf}
+use Rattle.model.specs.Outcome.{refusalOf}
 use Rattle.model.proofs.laws.Lists.{first-next, first-at}
 use Rattle.rules.proofs.EndsSeen.{unknown-end, self-channel, doubled, place, Seen, seen-none, seen-next}
 use Rattle.rules.proofs.topology.channels.Statement.{statement}
@@ -48,7 +46,7 @@ table : (b : Turn) → Seen (T b) (at b) (b .before .loop .seen)
 table b = b .before .loop .inv .2
 
 -- the channel at hand decides
-decides : (b : Turn) (r : Refusal) → channelRefusal (T b) (at b) ≡ some r → some r ≡ channelsRefusal (T b)
+decides : (b : Turn) (r : ℕ) → channelRefusal (T b) (at b) ≡ some r → some r ≡ channelsRefusal (T b)
 unfolding channelsRefusal
 decides b r e = sym (first-at (T b .channels) (at b) (channelRefusal (T b)) r (omega arith) (none-so-far b) e)
 
@@ -77,7 +75,7 @@ passing e = turn (e .before)
 by-table : (e : Distinct)
     → let b = passing e in
     channelRefusal (T b) (at b)
-    ≡ cond (getD (b .before .loop .seen) (place (from b) (to b)) false) (some DoubledChannel) none
+    ≡ cond (getD (b .before .loop .seen) (place (from b) (to b)) false) (some 5) none
 unfolding sender receiver
 by-table e =
     let b = passing e in
@@ -92,7 +90,7 @@ unknown : tie.Need-returns Inv-loop μ-loop
 unfolding refusalOf sender receiver
 unknown c =
     let b : Turn = c .before .before .before in
-    decides b UnknownEnd
+    decides b 3
     (unknown-end (T b) (at b)
     (⊎-elim (λ w p q. omega arith) (λ w p q. omega (arith, leb-true)) (c .if1 .came)))
 
@@ -101,13 +99,13 @@ unfolding refusalOf sender receiver
 self c =
     let d : Known = c .before in
     let b = turn d in
-    decides b SelfChannel (self-channel (T b) (at b) (from-known d) (to-known d) (c .if3 .taken))
+    decides b 4 (self-channel (T b) (at b) (from-known d) (to-known d) (c .if3 .taken))
 
 twice : tie.Need-returns-3 Inv-loop μ-loop
 unfolding refusalOf sender receiver
 twice c =
     let e : Distinct = c .before .before in
-    decides (passing e) DoubledChannel (by-table e ∙ rw (← (c .before .place .ensures), c .if4 .taken))
+    decides (passing e) 5 (by-table e ∙ rw (← (c .before .place .ensures), c .if4 .taken))
 
 loop-again : tie.Need-loop-again Inv-loop μ-loop
 unfolding sender receiver

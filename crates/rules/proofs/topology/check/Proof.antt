@@ -3,7 +3,7 @@ use mathlib.Core.Path.{sym, ap, _∙_}
 use borrow.Author.Needs.{needs}
 use Rattle.model.specs.Notation.{orElse}
 use Rattle.model.specs.Topology.{topologyRefusal}
-use Rattle.model.specs.Check.{refusalOf}
+use Rattle.model.specs.Outcome.{refusalOf}
 use Rattle.model.proofs.laws.TopologyLaws.{sizes}
 use Rattle.rules.proofs.topology.check.Statement.{statement}
 use Rattle.rules.proofs.topology.check.Tie as tie

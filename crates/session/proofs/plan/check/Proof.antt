@@ -8,7 +8,8 @@ use native.Mathlib.Omega.{arith}
 use lib.ListN.{length, getD}
 use lib.Dec.{ltb}
 use Rattle.model.specs.Notation.{orElse}
-use Rattle.model.specs.Check.{firstRefusal, refusalOf}
+use Rattle.model.specs.Check.{firstRefusal}
+use Rattle.model.specs.Outcome.{refusalOf}
 use Rattle.model.specs.Topology.{sizeRefusal}
 use Rattle.model.specs.Program.{planLength, shapeRefusal}
 use Rattle.session.proofs.plan.check.Statement.{statement}

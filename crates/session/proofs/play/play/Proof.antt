@@ -1,7 +1,7 @@
 -- `play::play` meets its contract: the plan's sizes refuse it, or the session runs.
 use borrow.Author.Needs.{needs}
 use mathlib.Core.Path.{refl, sym, ap, _∙_}
-use Rattle.model.specs.Check.{refusalOf}
+use Rattle.model.specs.Outcome.{refusalOf}
 use Rattle.session.proofs.Opening.{input-bytes, shape-refuses, plays-refused, plays}
 use Rattle.session.proofs.play.play.Statement.{statement}
 use Rattle.session.proofs.play.play.Tie as tie

@@ -1,10 +1,12 @@
 -- `play::run` meets its contract: initialize refuses the plan, or the session runs to its end.
 use borrow.Author.Needs.{needs}
 use native.Mathlib.Omega.{arith}
+use mathlib.Core.Path.{ap, _∙_}
 use lib.ListN.{length-drop}
+use Rattle.model.specs.Outcome.{startRefusal}
 use Rattle.model.specs.State.{view}
 use Rattle.model.proofs.laws.TopologyLaws.{SizesFit}
-use Rattle.session.proofs.Opening.{plan-sizes, opens, refuses, plays-refused, plays-through}
+use Rattle.session.proofs.Opening.{plan-sizes, decides, leaves, plays-refused, plays-through}
 use Rattle.session.proofs.play.run.Statement.{statement}
 use Rattle.session.proofs.play.run.Tie as tie
 
@@ -41,9 +43,11 @@ refused c =
     let line = c .before .before in
     let told = line .before .before .before in
     let i = told .before .before .before .before in
-    let (refusal, kept) =
-    refuses (start i .pre) (planned i .topology .ensures) (i .initialize .ensures) (told .start .given .1) in
-    plays-refused _ _ _ refusal kept (line .plan-refused .ensures)
+    let plan = planned i .topology .ensures in
+    let started = i .initialize .ensures in
+    let refusal = ap startRefusal (told .start .given .1) in
+    plays-refused _ _ _ (decides (start i .pre) plan started ∙ refusal) (leaves (start i .pre) plan started refusal)
+    (line .plan-refused .ensures)
 
 ran : tie.Need-returns-2
 unfolding view
@@ -57,7 +61,7 @@ ran c =
     let plan = planned i .topology .ensures in
     let started = i .initialize .ensures in
     plays-through _ _ _ plan (started .state) (started .store) (r .records .ensures)
-    (opens (start i .pre) plan started (t .enum-told .given .1))
+    (decides (start i .pre) plan started ∙ ap startRefusal (t .enum-told .given .1))
     (q .requests .ensures) (p .processes .ensures) (last .channels2 .ensures)
 
 few : tie.Need-requests-requires

@@ -1,10 +1,10 @@
 -- `request::read` meets its contract: no budget, no record after it, or both.
 use borrow.Author.Needs.{needs}
-use mathlib.Core.Path.{_≡_, sym, _∙_}
+use mathlib.Core.Path.{_≡_, sym, ap, _∙_}
 use mathlib.Core.Option.{some}
 use Rattle.model.specs.Record.{andThen, readRecord}
 use Rattle.model.specs.Program.{readBudget, readRequest}
-use Rattle.record.specs.Reading.{answered}
+use Rattle.record.specs.Reading.{saysOf, answered}
 use Rattle.session.specs.Request.{sourceOf, requested, afterBudget}
 use Rattle.session.proofs.Requests.{no-budget, a-budget, no-record, a-record}
 use Rattle.session.proofs.request.read.Statement.{statement}
@@ -28,7 +28,7 @@ module _ (c : tie.After-read) where
       ≡ some (budget .budget .given .0 .0, afterBudget (sourceOf (start .args .source)) (start .args .bytes .now))
   lasts = a-budget _ _ (sym (budget .before .before .budget-of .ensures) ∙ budget .budget .given .1)
 
-  answers : c .read .result
+  answers : saysOf (c .read .result)
       ≡ answered (readRecord (afterBudget (sourceOf (start .args .source)) (start .args .bytes .now)))
   answers = rw (← c .before .record-bytes .ensures) (c .read .ensures)
 
@@ -36,14 +36,14 @@ none-read : tie.Need-returns-2
 unfolding readRequest andThen requested
 none-read c =
     let k = c .before .before in
-    rw (lasts k, andThen, no-record _ (sym (answers k) ∙ c .enum-told2 .given .1))
+    rw (lasts k, andThen, no-record _ (sym (answers k) ∙ ap saysOf (c .enum-told2 .given .1)))
 
 both : tie.Need-returns-3
 unfolding readRequest andThen requested
 both c =
     let r = c .before in
     let k = r .before .before in
-    rw (lasts k, andThen, a-record (start k .args .bytes .now) _ (sym (answers k) ∙ r .«record» .given .1))
+    rw (lasts k, andThen, a-record (start k .args .bytes .now) _ (sym (answers k) ∙ ap saysOf (r .«record» .given .1)))
 
 pub read-spec : {M : Type 1} → statement M
 read-spec =
