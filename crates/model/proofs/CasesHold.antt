@@ -18,6 +18,7 @@ use Rattle.model.specs.Outcome as outcome
 use Rattle.model.specs.Record as records
 use Rattle.model.specs.Program as program
 use Rattle.model.specs.Run as run
+use Rattle.model.specs.ProgramRuns as runs
 use Rattle.model.specs.Cases as cases
 
 pub starred-hold : map (λ (c : cases.Case). c .got) cases.starred ≡ map (λ (c : cases.Case). c .expected) cases.starred
@@ -56,7 +57,8 @@ unfolding
     program.lineThen program.brokenLine program.session program.sessionFrom program.sessionOf program.report
     program.playedOf program.played program.head
     run.replyTo run.stateAfter run.storeAfter run.next run.run run.firstWorld
+    runs.callWith runs.callOf
     cases.saidWord cases.lineNumbers cases.numbered cases.outputNumbers cases.printed cases.input
-    cases.oneProcess cases.callWith cases.callOf cases.afterSteps cases.answerIn cases.answerLine cases.thenRecover
+    cases.oneProcess cases.afterSteps cases.answerIn cases.answerLine cases.thenRecover
     cases.tagNumber cases.entryNumbers cases.thenTags cases.readingNumbers cases.starred
 starred-hold = refl

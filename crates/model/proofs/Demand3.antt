@@ -31,7 +31,7 @@ pub record InvOf (T : Topology) (w : World) : Type 0 where
   pub holds : Inv (w .state) (w .store) (w .history)
 
 -- what a recover gives in such a world
-recovers-in : (T : Topology) (w : World) → topologyRefusal T ≡ none → InvOf T w → RecoveredAfter T w
+pub recovers-in : (T : Topology) (w : World) → topologyRefusal T ≡ none → InvOf T w → RecoveredAfter T w
 recovers-in T w good i =
     subst₂ (λ (T′ : Topology) (k : ℕ). topologyRefusal T′ ≡ none → Recovered T′ (recover T′ (w .store))
     (onRecover (w .history)) k)
@@ -65,7 +65,7 @@ recover-keeps w good i =
     })
 
 module _ (T : Topology) (good : topologyRefusal T ≡ none) where
-  call-keeps : (w : World) → InvOf T w → (c : Call) → InvOf T (next T w c)
+  pub call-keeps : (w : World) → InvOf T w → (c : Call) → InvOf T (next T w c)
   call-keeps w i c =
       subst (λ (T′ : Topology). topologyRefusal T′ ≡ none → InvOf T′ w → InvOf T′ (next T′ w c)) (i .topology) (own c)
       good i

@@ -7,6 +7,7 @@ pub mod ToldApart
 pub mod CasesHold
 pub mod Soundness
 pub mod Demand3
+pub mod ProgramsRun
 pub mod Touched
 pub mod Looked
 pub mod Reached

@@ -19,7 +19,8 @@ use Rattle.model.specs.Step.{answer}
 use Rattle.model.specs.Outcome as says
 use Rattle.model.specs.Record.{Reading, fieldsOf, readRecord}
 use Rattle.model.specs.Program as program
-use Rattle.model.specs.Run.{Call, call, recovery, World, run, firstWorld}
+use Rattle.model.specs.Run.{World, run, firstWorld}
+use Rattle.model.specs.ProgramRuns.{callOf}
 
 -- The output's words as numbers: the code of the first letter. So a line of numbers reads as the program prints it, and
 -- no two lines look alike.
@@ -110,14 +111,6 @@ oneProcess =
     ∷ 0x01 ∷ 0x07
     ∷ 0x01 ∷ 0x09
     ∷ []
-
--- a request as a call
-unfoldable pub callWith : ℕ → Record → Call
-callWith budget (records.Call x) = call x budget
-callWith budget records.Recover = recovery
-
-unfoldable pub callOf : program.Request → Call
-callOf r = callWith (r .budget) (r .content)
 
 -- what there is after the first n steps that these bytes ask for
 unfoldable pub afterSteps : List ℕ → ℕ → World

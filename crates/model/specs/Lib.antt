@@ -19,6 +19,7 @@ pub mod Program
 pub mod History
 pub mod Run
 pub mod Claim
+pub mod ProgramRuns
 pub mod Found
 pub mod Extent
 pub mod Order
