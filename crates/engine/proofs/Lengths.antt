@@ -18,10 +18,13 @@ pub record Lengths (s : State) : Type 0 where
   pub logical : length (s .flags .logical) ≡ processLimit
   pub closed : length (s .flags .closed) ≡ channelLimit
   pub sent : length (s .flags .sent) ≡ channelLimit
+  pub inMessages : length (s .counts .messages) ≡ processLimit
+  pub inChannels : length (s .counts .channels) ≡ channelLimit
 
 pub lengths : (s : State) (v : List Val) → Is (row the-type) s v → Lengths s
 lengths s v g =
     let flags = g .1 .1 .1 .1 .1 .1 .1 .0 in
+    let counts = g .1 .1 .1 .1 .1 .1 .1 .1 .0 in
     record {
       words = length-of _ (s .words) processLimit (g .1 .1 .1 .1 .0 .1 .0 .1);
       tags = length-of _ (s .tags) processLimit (g .1 .1 .1 .1 .1 .0 .1 .0 .1);
@@ -29,4 +32,6 @@ lengths s v g =
       logical = length-of _ (s .flags .logical) processLimit (flags .1 .1 .0 .1 .0 .1);
       closed = length-of _ (s .flags .closed) channelLimit (flags .1 .1 .1 .0 .1 .0 .1);
       sent = length-of _ (s .flags .sent) channelLimit (flags .1 .1 .1 .1 .0 .1 .0 .1);
+      inMessages = length-of _ (s .counts .messages) processLimit (counts .1 .1 .0 .1 .0 .1);
+      inChannels = length-of _ (s .counts .channels) channelLimit (counts .1 .1 .1 .0 .1 .0 .1);
     }

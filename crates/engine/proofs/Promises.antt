@@ -25,11 +25,7 @@ use Rattle.model.specs.Step.{step, ownChecks, stepChecks, resultOf, effect, ans
 use Rattle.model.specs.Outcome.{refusalNumber, accepted}
 use Rattle.model.specs.Outcome as says
 use Rattle.model.proofs.laws.Tests.{true-is-not-false}
-use Rattle.engine.specs.Answers.{Meets, Answers, ownResult, Performs, Quiet}
-
--- the state handed in, refused
-abbrev pub refusedBy : Refusal → State → Answer
-refusedBy r s = record { outcome = Refused r; made = 0; state = s }
+use Rattle.engine.specs.Answers.{Meets, Answers, refusedBy, ownResult, Performs, Quiet}
 
 -- a result without writes, under any budget
 pub unbudgeted : (budget : ℕ) (s : GlobalState) (store : List ℕ) (r : Result) → r .writes ≡ []
@@ -49,17 +45,19 @@ module _ (s : State) (x : Step) where
   own-done e = rw e
 
   -- answers without writes
-  pub quiet-refused : (r : Refusal) → firstRefusal (ownChecks (view s) x) ≡ some (refusalNumber r) → Quiet s x (refusedBy r s)
+  pub quiet-refused : (r : Refusal) → firstRefusal (ownChecks (view s) x) ≡ some (refusalNumber r) → {a : Answer}
+      → a ≡ refusedBy r s → Quiet s x a
   unfolding quietly
-  quiet-refused r e =
+  quiet-refused r e {a} is =
       let own = own-refused r e in
-      record {
+      subst (Quiet s x) (sym is)
+      (record {
         outcome = ap (λ (y : Result). y .outcome) (sym own);
         made = refl;
         state = ap (λ (y : Result). y .state) (sym own);
         kept = λ _. refl;
         writes = ap (λ (y : Result). y .writes) own;
-      }
+      })
 
   pub quiet-done : firstRefusal (ownChecks (view s) x) ≡ none → (seen : GlobalState)
       → effect (view s) x ≡ quietly says.done seen → (next : State) → view next ≡ seen
@@ -83,9 +81,9 @@ module _ (s : State) (x : Step) where
         (sym (unbudgeted budget (view s) before (ownResult (view s) x) (q .writes)))
         (record { outcome = q .outcome; made = q .made; state = q .state; kept = q .kept; store = refl })
 
-    pub performs-refused : (r : Refusal) → firstRefusal (ownChecks (view s) x) ≡ some (refusalNumber r)
-        → Performs s x before budget (refusedBy r s) before
-    performs-refused r e = quiet-performs _ (quiet-refused r e)
+    pub performs-refused : (r : Refusal) → firstRefusal (ownChecks (view s) x) ≡ some (refusalNumber r) → {a : Answer}
+        → a ≡ refusedBy r s → Performs s x before budget a before
+    performs-refused r e is = quiet-performs _ (quiet-refused r e is)
 
     module _ (e : firstRefusal (ownChecks (view s) x) ≡ none) (after : List ℕ)
         (written : after ≡ writeAll before (take budget (effect (view s) x .writes))) where
@@ -127,13 +125,14 @@ module _ (s : State) (x : Step) (before : List ℕ) (budget : ℕ) where
   found y r after = Meets s (underBudget budget (view s) before y) r after
 
   refused : (r : Refusal) → step (view s) (length before) x ≡ quietly (says.refused (refusalNumber r)) (view s)
-      → Answers s x before budget (refusedBy r s) before
+      → {a : Answer} → a ≡ refusedBy r s → Answers s x before budget a before
   unfolding answer quietly
-  refused r e =
-      subst (λ (y : Result). found y (refusedBy r s) before) (sym e)
+  refused r e is =
+      subst (λ (a : Answer). Answers s x before budget a before) (sym is)
+      (subst (λ (y : Result). found y (refusedBy r s) before) (sym e)
       (subst (λ (a : Answered). Meets s a (refusedBy r s) before)
       (sym (unbudgeted budget (view s) before (quietly (says.refused (refusalNumber r)) (view s)) refl))
-      (record { outcome = refl; made = refl; state = refl; kept = λ _. refl; store = refl }))
+      (record { outcome = refl; made = refl; state = refl; kept = λ _. refl; store = refl })))
 
   unsound : sound (view s) ≡ false → step (view s) (length before) x ≡ quietly (says.refused 15) (view s)
   unfolding step stepChecks firstRefusal resultOf
@@ -149,12 +148,13 @@ module _ (s : State) (x : Step) (before : List ℕ) (budget : ℕ) where
   unfolding step stepChecks firstRefusal ownResult
   own-step e l = rw (e, le-ltb (length before) storeCells l)
 
-  pub step-unsound : sound (view s) ≡ false → Answers s x before budget (refusedBy Unsound s) before
-  step-unsound e = refused Unsound (unsound e)
+  pub step-unsound : sound (view s) ≡ false → {a : Answer} → a ≡ refusedBy Unsound s
+      → Answers s x before budget a before
+  step-unsound e is = refused Unsound (unsound e) is
 
-  pub step-short : sound (view s) ≡ true → length before < storeCells
-      → Answers s x before budget (refusedBy ShortStore s) before
-  step-short e l = refused ShortStore (short e l)
+  pub step-short : sound (view s) ≡ true → length before < storeCells → {a : Answer} → a ≡ refusedBy ShortStore s
+      → Answers s x before budget a before
+  step-short e l is = refused ShortStore (short e l) is
 
   pub step-own : sound (view s) ≡ true → storeCells ≤ length before → (r : Answer) (after : List ℕ)
       → Performs s x before budget r after → Answers s x before budget r after

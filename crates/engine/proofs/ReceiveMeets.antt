@@ -1,28 +1,27 @@
 -- From the promise of an attempt to that of the receive: the definition's checks and effect are those of the first
 -- entry's reaction, and the state that the code answers is seen as the definition has it.
-use Prim.Native.Nat.{ℕ, _<_, _≤_}
+use Prim.Native.Nat.{ℕ, _+_, _<_, _≤_}
 use mathlib.Core.Path.{_≡_, refl, sym, ap, subst, _∙_}
 use mathlib.Core.Bool.{Bool, true, false, cond, not, Bool·beq}
 use mathlib.Core.List.{List, _∷_}
 use mathlib.Core.Option.{Option, none, some}
-use lib.ListN.{length, getD, set, drop}
+use lib.ListN.{getD, set, drop}
 use lib.Dec.{eqb}
 use borrow.Author.Tests.{lt-ltb, le-ltb, ne-eqb, eqb-true, eqb-false}
 use native.Mathlib.Omega.{arith}
 use Rattle.model.specs.declared.Answer.{Answer}
 use Rattle.model.specs.declared.State.{State}
-use Rattle.model.specs.declared.Flags.{Flags}
-use Rattle.model.specs.declared.Counts.{Counts}
 use Rattle.model.specs.declared.Channel.{Channel}
 use Rattle.model.specs.declared.Entry.{Entry}
 use Rattle.model.specs.declared.Step.the-variants.{Receive}
 use Rattle.model.specs.Notation.{tabulate, upd}
 use Rattle.model.specs.Check.{firstRefusal}
-use Rattle.model.specs.Topology.{receiver, hasChannel}
+use Rattle.model.specs.Topology.{processLimit, channelLimit, receiver, hasChannel}
 use Rattle.model.specs.Channel.{entryAt, entries, noEntry, bodyOf}
-use Rattle.model.specs.State.{GlobalState, emptyChannel, view, viewProgress, viewCounts, raisedAll}
+use Rattle.model.specs.State.{GlobalState, emptyChannel, view, viewProgress, viewCounts}
 use Rattle.model.specs.Change.{setEntries, enterBody}
-use Rattle.model.specs.Write.{Result, Answered, underBudget}
+use Rattle.model.specs.Receive.{anyFull}
+use Rattle.model.specs.Write.{Result, Answered, underBudget, logsWrites}
 use Rattle.model.specs.Step.{reaction, firstReaction, markerOnClosed, priorChecks, roomChecks, logChecks, ownChecks}
 use Rattle.model.specs.Step.{nextLine, react, receivedOutcome, receive, effect, resultOf}
 use Rattle.model.proofs.laws.Tests.{true-is-not-false, Tested, holds, fails, test}
@@ -34,8 +33,10 @@ use Rattle.rules.specs.Reacting.{viewReaction}
 use Rattle.engine.specs.declared.receive.Setting.{Setting}
 use Rattle.engine.specs.declared.receive.Reception.{Reception}
 use Rattle.engine.specs.Answers.{Meets, ownResult, Performs}
-use Rattle.engine.specs.Receiving.{receiveChecks, bodyWrites, wordAfter, progressAfter, unlessRefused}
-use Rattle.engine.specs.Receiving.{Attempts}
+use Rattle.engine.specs.Receiving.{full, receiveChecks, bodyWrites, wordAfter, unlessRefused}
+use Rattle.engine.specs.Receiving.{answeredWith, Attempts}
+use Rattle.engine.proofs.Lengths.{Lengths}
+use Rattle.engine.proofs.Receptions.{either-full, both-written, flagged, flags-raised, counted, counts-raised}
 use Rattle.engine.proofs.Receptions.{received}
 use Rattle.engine.proofs.Views.{same-state}
 
@@ -58,7 +59,8 @@ module _ (s : State) (c : ℕ) (planned : c < s .topology .channels) (k : Channe
         entries = k .count;
         closed = getD (s .flags .closed) c false;
         receiver = r;
-        counts = s .counts;
+        «in_channel» = getD (s .counts .channels) c 0;
+        «in_messages» = getD (s .counts .messages) r 0;
       }
 
   -- the state after it, and all that it does
@@ -73,6 +75,18 @@ module _ (s : State) (c : ℕ) (planned : c < s .topology .channels) (k : Channe
         writes = bodyWrites x setting (s .round .line) (bodyOf e);
       }
 
+  -- the logs needed are the channel's and its receiver's
+  same-full : anyFull (view s .counts) (viewReaction c r x .logs) ≡ full x setting
+  unfolding view viewCounts viewReaction
+  same-full = either-full (viewCounts (s .counts)) c r (x .«channel_log») (x .«message_log»)
+
+  same-writes : (body : ℕ)
+      → logsWrites (nextLine (view s)) (view s .counts) (viewReaction c r x .logs) body
+      ≡ bodyWrites x setting (s .round .line) body
+  unfolding nextLine view viewCounts viewReaction
+  same-writes body =
+      both-written (viewCounts (s .counts)) c r (s .round .line + 1) body (x .«channel_log») (x .«message_log»)
+
   empty : k .count ≡ 0 → firstRefusal (ownChecks (view s) (Receive c)) ≡ firstRefusal (receiveChecks x setting)
   unfolding ownChecks priorChecks roomChecks logChecks hasChannel noEntry firstRefusal entries tabulate view
   empty z = rw (lt-ltb c (s .topology .channels) planned, read, z)
@@ -86,11 +100,17 @@ module _ (s : State) (c : ℕ) (planned : c < s .topology .channels) (k : Channe
         view
         viewProgress viewReaction
     same-checks =
-        rw (lt-ltb c (s .topology .channels) planned, first, ← reacts, ne-eqb (k .count) 0 (λ z. omega arith))
+        rw (
+          lt-ltb c (s .topology .channels) planned,
+          first,
+          ← reacts,
+          ne-eqb (k .count) 0 (λ z. omega arith),
+          same-full,
+        )
 
     effect-is : effect (view s) (Receive c) ≡ result
     unfolding effect receive nextLine view receiver
-    effect-is = rw (first, ← reacts)
+    effect-is = rw (first, ← reacts, same-writes (bodyOf e))
 
   checks : firstRefusal (ownChecks (view s) (Receive c)) ≡ firstRefusal (receiveChecks x setting)
   checks = go (test (eqb (k .count) 0))
@@ -118,14 +138,11 @@ module _ (s : State) (c : ℕ) (planned : c < s .topology .channels) (k : Channe
   -- the answer of the code, by what came of the attempt
   module _ (before : List ℕ) (budget : ℕ) (came : Reception) (written : List ℕ)
       (attempted : Attempts x setting e (s .round .line) before budget came written) where
-    abbrev answer : State → Answer
-    answer next = record { outcome = came .outcome; made = came .made; state = next }
-
     meets : (next : State) → view next ≡ cond (came .received) after (view s) → (came .received ≡ false → next ≡ s)
-        → Performs s (Receive c) before budget (answer next) written
-    meets next v kept =
-        subst
-        (λ (a : Answered). Meets s a (answer next) written)
+        → {a : Answer} → a ≡ answeredWith came next → Performs s (Receive c) before budget a written
+    meets next v kept is =
+        subst (λ (a : Answer). Performs s (Receive c) before budget a written) (sym is)
+        (subst (λ (y : Answered). Meets s y (answeredWith came next) written)
         (sym (ap (underBudget budget (view s) before) own ∙ attempted .answered (view s) after))
         (record {
           outcome = refl;
@@ -133,18 +150,19 @@ module _ (s : State) (c : ℕ) (planned : c < s .topology .channels) (k : Channe
           state = v;
           kept = λ f. kept (sym (attempted .received) ∙ f);
           store = refl;
-        })
+        }))
 
-    pub receive-stopped : came .received ≡ false
-        → Performs s (Receive c) before budget (answer s) written
-    receive-stopped f = meets s (rw f) (λ _. refl)
+    pub receive-stopped : came .received ≡ false → {a : Answer} → a ≡ answeredWith came s
+        → Performs s (Receive c) before budget a written
+    receive-stopped f is = meets s (rw f) (λ _. refl) is
 
-    pub receive-done : came .received ≡ true → (next : State) → view next ≡ after
-        → Performs s (Receive c) before budget (answer next) written
-    receive-done f next v = meets next (rw f v) (λ never. true-is-not-false f never)
+    pub receive-done : came .received ≡ true → (next : State) → view next ≡ after → {a : Answer}
+        → a ≡ answeredWith came next → Performs s (Receive c) before budget a written
+    receive-done f next v is = meets next (rw f v) (λ never. true-is-not-false f never) is
 
 -- the state that the code answers
-module _ (s : State) (c r : ℕ) (k : Channel) (w : ℕ) (g : Bool) (f : Flags) (n : Counts) where
+module _ (s : State) (n : Lengths s) (c r : ℕ) (below : c < channelLimit) (to-below : r < processLimit) (k : Channel)
+    (w : ℕ) (g : Bool) (x : Reaction) where
   abbrev changed : State
   changed =
       record {
@@ -153,27 +171,32 @@ module _ (s : State) (c r : ℕ) (k : Channel) (w : ℕ) (g : Bool) (f : Flags) 
         words = set (s .words) r w;
         tags = set (s .tags) r g;
         channels = set (s .channels) c k;
-        flags = f;
-        counts = n;
+        flags =
+            flagged (s .flags) c r (rw (n .closed) below) (rw (n .logical) to-below) (x .«logical_first») (x .closes);
+        counts =
+            counted (s .counts) c r (rw (n .inChannels) below) (rw (n .inMessages) to-below) (x .«channel_log»)
+            (x .«message_log»);
       }
 
-  pub changed-seen : c < length (s .channels) → r < length (s .words) → r < length (s .tags)
-      → (x : Reaction) (e : Entry) (es : List Entry) → entries k ≡ es → w ≡ wordAfter e (getD (s .words) r 0)
+  pub changed-seen : (e : Entry) (es : List Entry) → entries k ≡ es → w ≡ wordAfter e (getD (s .words) r 0)
       → g ≡ not (Bool·beq (getD (s .tags) r false) (x .«logical_first»))
-      → viewProgress f ≡ progressAfter (x .«logical_first») (x .closes) c r (viewProgress (s .flags))
-      → viewCounts n ≡ raisedAll (viewReaction c r x .logs) (viewCounts (s .counts))
       → view changed ≡ enterBody r e (setEntries c es (react (viewReaction c r x) c r (view s)))
   unfolding view viewReaction
-  changed-seen lc lw lt x e es pk pw pg pf pn =
-      same-state refl refl (seen-set (λ v. v) (s .words) r w 0 lw) (seen-set (λ v. v) (s .tags) r g false lt)
-      (seen-set entries (s .channels) c k emptyChannel lc) refl refl
+  changed-seen e es pk pw pg =
+      same-state refl refl (seen-set (λ v. v) (s .words) r w 0 (rw (n .words) to-below))
+      (seen-set (λ v. v) (s .tags) r g false (rw (n .tags) to-below))
+      (seen-set entries (s .channels) c k emptyChannel (rw (n .channels) below)) refl refl
       ∙ (λ i. record {
         topology = s .topology;
         round = s .round;
         word = upd (λ p. getD (s .words) p 0) r (pw i);
         tag = upd (λ p. getD (s .tags) p false) r (pg i);
         channel = upd (λ d. entries (getD (s .channels) d emptyChannel)) c (pk i);
-        progress = pf i;
-        counts = pn i;
+        progress =
+            flags-raised (s .flags) c r (rw (n .closed) below) (rw (n .logical) to-below) (x .«logical_first»)
+            (x .closes) i;
+        counts =
+            counts-raised (s .counts) c r (rw (n .inChannels) below) (rw (n .inMessages) to-below) (x .«channel_log»)
+            (x .«message_log») i;
       })
       ∙ sym (received c r (view s) (viewReaction c r x) e es)

@@ -12,6 +12,7 @@ use borrow.Author.Tests.{lt-ltb, le-ltb, leb-false}
 use native.Mathlib.Omega.{arith}
 use native.Mathlib.Nat.{min-eq-left, min-eq-right}
 use Rattle.model.specs.declared.Counts.{Counts}
+use Rattle.model.specs.declared.Flags.{Flags}
 use Rattle.model.specs.declared.Entry.{Entry}
 use Rattle.model.specs.declared.Entry.the-variants.{Message, Marker}
 use Rattle.model.specs.declared.Outcome.{Outcome}
@@ -22,7 +23,7 @@ use Rattle.model.specs.Check.{firstRefusal}
 use Rattle.model.specs.Channel.{bodyOf}
 use Rattle.model.specs.Layout.{storeCells, slot, processRecord, channelRecord, Log, messageLog, channelLog}
 use Rattle.model.specs.Layout.{messagePlaces, channelPlaces, countCell, entryCell}
-use Rattle.model.specs.State.{GlobalState, Progress, LogCounts, raised, raisedAll, viewCounts}
+use Rattle.model.specs.State.{GlobalState, Progress, LogCounts, raised, raisedAll, viewProgress, viewCounts}
 use Rattle.model.specs.Change.{withWord, withTag, withChannel, withProgress, withCounts, withLogical, withClosed}
 use Rattle.model.specs.Change.{setEntries, enterBody, logicalCheckpoint, close}
 use Rattle.model.specs.Receive.{anyFull}
@@ -34,7 +35,7 @@ use Rattle.model.proofs.laws.Effects.{received-accepted}
 use Rattle.model.proofs.laws.Tests.{true-is-not-false, or-left, or-true, or-false}
 use Rattle.model.proofs.laws.Functions.{upd-unchanged, seen-set}
 use Rattle.rules.specs.declared.reaction.Reaction.{Reaction}
-use Rattle.rules.specs.Reacting.{logIf, viewReaction}
+use Rattle.rules.specs.Reacting.{logIf}
 use Rattle.engine.specs.declared.receive.Setting.{Setting}
 use Rattle.engine.specs.Spent.{Spent, appendIf}
 use Rattle.engine.specs.Receiving.{InArrays, full, receiveChecks, bodyWrites, wordAfter, progressAfter}
@@ -48,7 +49,7 @@ a-bit false = omega arith
 
 -- the two logs that a body may go into, by their channel and their process
 module _ (n : LogCounts) (c p : ℕ) where
-  either-full : (a b : Bool)
+  pub either-full : (a b : Bool)
       → anyFull n (logIf a (channelLog c) ++ logIf b (messageLog p))
       ≡ ((a && leb channelPlaces (n .channels c)) || (b && leb messagePlaces (n .messages p)))
   unfolding anyFull
@@ -97,37 +98,28 @@ second true false m k e f = leb-false m k f
 second false u m k e f = true-is-not-false e refl
 
 module _ (x : Reaction) (a : Setting) where
-  pub full-test : full x a
-      ≡ ((x .«channel_log» && leb channelPlaces (getD (a .counts .channels) (a .channel) 0))
-      || (x .«message_log» && leb messagePlaces (getD (a .counts .messages) (a .receiver) 0)))
-  unfolding viewReaction viewCounts
-  full-test = either-full (viewCounts (a .counts)) (a .channel) (a .receiver) (x .«channel_log») (x .«message_log»)
-
   -- no log needed is full: the place for one entry more is in the store
   module _ (h : InArrays a) (roomy : full x a ≡ false) (line : ℕ) where
     pub channel-place : x .«channel_log» ≡ true
-        → entryCell (countCell line (channelLog (a .channel))) (getD (a .counts .channels) (a .channel) 0) < storeCells
+        → entryCell (countCell line (channelLog (a .channel))) (a .«in_channel») < storeCells
     unfolding countCell channelRecord slot
     channel-place e = omega (arith, h .channel, below)
       where
-        below : getD (a .counts .channels) (a .channel) 0 < channelPlaces
-        below = first (x .«channel_log») channelPlaces _ _ e (sym full-test ∙ roomy)
+        below : a .«in_channel» < channelPlaces
+        below = first (x .«channel_log») channelPlaces _ _ e roomy
 
     pub message-place : x .«message_log» ≡ true
-        → entryCell (countCell line (messageLog (a .receiver))) (getD (a .counts .messages) (a .receiver) 0)
-        < storeCells
+        → entryCell (countCell line (messageLog (a .receiver))) (a .«in_messages») < storeCells
     unfolding countCell processRecord slot
     message-place e = omega (arith, h .receiver, below)
       where
-        below : getD (a .counts .messages) (a .receiver) 0 < messagePlaces
+        below : a .«in_messages» < messagePlaces
         below =
-            second (x .«message_log»)
-            (x .«channel_log» && leb channelPlaces (getD (a .counts .channels) (a .channel) 0)) messagePlaces _ e
-            (sym full-test ∙ roomy)
+            second (x .«message_log») (x .«channel_log» && leb channelPlaces (a .«in_channel»)) messagePlaces _ e roomy
 
 -- the counts after it
 module _ (n : Counts) (c p : ℕ) (inChannels : c < length (n .channels)) (inMessages : p < length (n .messages)) where
-  abbrev counted : Bool → Bool → Counts
+  abbrev pub counted : Bool → Bool → Counts
   counted a b =
       record {
         messages = set (n .messages) p (getD (n .messages) p 0 + boolByte b);
@@ -168,6 +160,26 @@ module _ (n : Counts) (c p : ℕ) (inChannels : c < length (n .channels)) (inMes
   counts-raised true false = both true false
   counts-raised false true = both false true
   counts-raised false false = both false false
+
+-- the flags after it
+module _ (f : Flags) (c r : ℕ) (inClosed : c < length (f .closed)) (inLogical : r < length (f .logical)) where
+  abbrev pub flagged : Bool → Bool → Flags
+  flagged first closes =
+      record {
+        logical = set (f .logical) r (getD (f .logical) r false || first);
+        closed = set (f .closed) c (getD (f .closed) c false || closes);
+        sent = f .sent;
+      }
+
+  pub flags-raised : (first closes : Bool)
+      → viewProgress (flagged first closes) ≡ progressAfter first closes c r (viewProgress f)
+  unfolding viewProgress progressAfter
+  flags-raised first closes =
+      λ i. record {
+        logical = seen-set (λ t. t) (f .logical) r (getD (f .logical) r false || first) false inLogical i;
+        closed = seen-set (λ t. t) (f .closed) c (getD (f .closed) c false || closes) false inClosed i;
+        sent = λ d. getD (f .sent) d false;
+      }
 
 -- a flag raised, and a tag turned over, where that is so
 flag-after : (f : ℕ → Bool) (i : ℕ) (t : Bool) → cond t (upd f i true) f ≡ upd f i (f i || t)

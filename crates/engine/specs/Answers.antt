@@ -9,6 +9,8 @@ use Rattle.model.specs.declared.Round.{Round}
 use Rattle.model.specs.declared.State.{State}
 use Rattle.model.specs.declared.Step.{Step}
 use Rattle.model.specs.declared.Answer.{Answer}
+use Rattle.model.specs.declared.Outcome.the-variants.{Refused}
+use Rattle.model.specs.declared.Refusal.{Refusal}
 use lib.ListN.{getD}
 use lib.Dec.{ltb}
 use Rattle.model.specs.Notation.{allBelow}
@@ -30,6 +32,10 @@ pub record Meets (s : State) (a : Answered) (r : Answer) (after : List ℕ) : Ty
 -- the public promise of step
 abbrev pub Answers : State → Step → List ℕ → ℕ → Answer → List ℕ → Type 0
 Answers s x before budget r after = Meets s (answer (view s) x before budget) r after
+
+-- the state handed in, refused
+abbrev pub refusedBy : Refusal → State → Answer
+refusedBy r s = record { outcome = Refused r; made = 0; state = s }
 
 -- The part of a step that is its own: refusals 15 and 6 are behind it.
 unfoldable pub ownResult : GlobalState → Step → Result

@@ -1,44 +1,40 @@
 -- What a receive does, by its entry's reaction, in terms of what the code has at hand: the setting. What turns it down,
 -- what it writes, and what becomes of its receiver's word and of the round's progress.
-use Prim.Native.Nat.{ℕ, _+_, _<_, _≤_}
+use Prim.Native.Nat.{ℕ, _+_, _<_}
 use mathlib.Core.Path.{_≡_}
 use mathlib.Core.Bool.{Bool, true, cond, _&&_, _||_}
-use mathlib.Core.List.{List, [], _∷_}
+use mathlib.Core.List.{List, [], _∷_, _++_}
 use mathlib.Core.Option.{Option, none, some}
-use lib.ListN.{getD}
-use lib.Dec.{eqb}
+use lib.Dec.{eqb, leb}
+use Rattle.model.specs.declared.State.{State}
+use Rattle.model.specs.declared.Answer.{Answer}
 use Rattle.model.specs.declared.Entry.{Entry}
-use Rattle.model.specs.declared.Flags.{Flags}
 use Rattle.model.specs.declared.Entry.the-variants.{Message, Marker}
 use Rattle.model.specs.Notation.{upd}
 use Rattle.model.specs.Check.{Check, _⇒_, firstRefusal}
 use Rattle.model.specs.Word.{enter}
 use Rattle.model.specs.Topology.{processLimit, channelLimit}
 use Rattle.model.specs.Channel.{bodyOf}
-use Rattle.model.specs.Layout.{Log, messagePlaces, channelPlaces}
-use Rattle.model.specs.State.{GlobalState, Progress, viewProgress, viewCounts}
-use Rattle.model.specs.Receive.{anyFull}
-use Rattle.model.specs.Write.{Write, Result, underBudget, logsWrites}
+use Rattle.model.specs.Layout.{messagePlaces, channelPlaces, messageLog, channelLog, countCell}
+use Rattle.model.specs.State.{GlobalState, Progress}
+use Rattle.model.specs.Write.{Write, Result, underBudget}
 use Rattle.model.specs.Step.{quietly, receivedOutcome}
 use Rattle.model.specs.Outcome.{refused, saidBy, accepted}
 use Rattle.rules.specs.declared.reaction.Reaction.{Reaction}
-use Rattle.rules.specs.Reacting.{viewReaction}
 use Rattle.engine.specs.declared.receive.Setting.{Setting}
 use Rattle.engine.specs.declared.receive.Reception.{Reception}
+use Rattle.engine.specs.Spent.{appendIf}
 
--- the code's arrays have the channel and the receiver, and the logs' counts are within their places
+-- the code's arrays have the channel and the receiver
 pub record InArrays (a : Setting) : Type 0 where
   pub channel : a .channel < channelLimit
   pub receiver : a .receiver < processLimit
-  pub inChannel : getD (a .counts .channels) (a .channel) 0 ≤ channelPlaces
-  pub inMessages : getD (a .counts .messages) (a .receiver) 0 ≤ messagePlaces
 
--- the logs that the reaction needs, and whether one of them is full
-abbrev pub logsOf : Reaction → Setting → List Log
-logsOf x a = viewReaction (a .channel) (a .receiver) x .logs
-
+-- whether a log that the reaction needs is full
 abbrev pub full : Reaction → Setting → Bool
-full x a = anyFull (viewCounts (a .counts)) (logsOf x a)
+full x a =
+    (x .«channel_log» && leb channelPlaces (a .«in_channel»))
+    || (x .«message_log» && leb messagePlaces (a .«in_messages»))
 
 -- refusals 10, 14 and 11
 abbrev pub receiveChecks : Reaction → Setting → List Check
@@ -47,7 +43,9 @@ receiveChecks x a =
 
 -- what a body writes, for the line after this one
 abbrev pub bodyWrites : Reaction → Setting → ℕ → ℕ → List Write
-bodyWrites x a line body = logsWrites (line + 1) (viewCounts (a .counts)) (logsOf x a) body
+bodyWrites x a line body =
+    appendIf (x .«channel_log») (countCell (line + 1) (channelLog (a .channel))) (a .«in_channel») body
+    ++ appendIf (x .«message_log») (countCell (line + 1) (messageLog (a .receiver))) (a .«in_messages») body
 
 unfoldable pub wordAfter : Entry → ℕ → ℕ
 wordAfter (Message b t) word = enter word b
@@ -62,14 +60,14 @@ progressAfter first closes c r p =
       sent = p .sent;
     }
 
--- by the code's flags and reaction
-abbrev pub flagsAfter : Reaction → ℕ → ℕ → Flags → Progress
-flagsAfter x c r flags = progressAfter (x .«logical_first») (x .closes) c r (viewProgress flags)
-
 -- what a receive does that is refused, or is not
 unfoldable pub unlessRefused : Option ℕ → GlobalState → Result → Result
 unlessRefused none s r = r
 unlessRefused (some n) s r = quietly (refused n) s
+
+-- what a receive answers, with this state
+abbrev pub answeredWith : Reception → State → Answer
+answeredWith came s = record { outcome = came .outcome; made = came .made; state = s }
 
 -- The promise of an attempt: outcome, writes and store are those of a receive of the entry e, whatever the states
 -- before and after it; and where it comes off, nothing turned it down.

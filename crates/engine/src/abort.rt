@@ -1,6 +1,7 @@
 // Step 8, abort (document 01's give up): the messages of the planned channels stay, in order, all tags are 0, and
 // the round is over.
 use crate::entries;
+use crate::refusal;
 use model::Answer;
 use model::Outcome;
 use model::PROCESSES;
@@ -24,11 +25,7 @@ pub fn abort(mut s: State) -> Answer
     let round = s.round;
     let phase = round.phase;
     if phase::is_idle(phase) {
-        return Answer {
-            outcome: Outcome::Refused(Refusal::NotNow),
-            made: 0,
-            state: s,
-        };
+        return refusal::refused(s, Refusal::NotNow);
     }
     let t = s.topology;
     let mut i: u8 = 0;

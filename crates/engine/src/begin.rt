@@ -1,4 +1,5 @@
 // Step 3, begin: the physical phase (document 01's copying) of a round starts, with the logs for its line empty.
+use crate::refusal;
 use crate::store;
 use model::Answer;
 use model::Outcome;
@@ -54,18 +55,10 @@ pub fn begin(mut s: State, store: &mut [u32], budget: u32) -> Answer
     let round = s.round;
     let phase = round.phase;
     if !phase::is_idle(phase) {
-        return Answer {
-            outcome: Outcome::Refused(Refusal::NotNow),
-            made: 0,
-            state: s,
-        };
+        return refusal::refused(s, Refusal::NotNow);
     }
     if round.line == phase::LAST_LINE {
-        return Answer {
-            outcome: Outcome::Refused(Refusal::LastLine),
-            made: 0,
-            state: s,
-        };
+        return refusal::refused(s, Refusal::LastLine);
     }
     clear(store, budget, t, round.line + 1);
     let writes = (t.processes as u32) + (t.channels as u32);

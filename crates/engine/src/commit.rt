@@ -1,4 +1,5 @@
 // Step 7, commit (document 01's finish): the line of the round under way becomes the last one finished.
+use crate::refusal;
 use crate::store;
 use model::Answer;
 use model::Flags;
@@ -57,11 +58,7 @@ pub fn commit(mut s: State, store: &mut [u32], budget: u32) -> Answer
     let phase = round.phase;
     let flags = s.flags;
     if !may_commit(phase, flags, t.processes, t.channels) {
-        return Answer {
-            outcome: Outcome::Refused(Refusal::NotNow),
-            made: 0,
-            state: s,
-        };
+        return refusal::refused(s, Refusal::NotNow);
     }
     let line = round.line + 1;
     store::put(store, budget, layout::LINE_CELL, line);

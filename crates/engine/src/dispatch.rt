@@ -5,10 +5,10 @@ use crate::commit;
 use crate::logical_checkpoint;
 use crate::physical_checkpoint;
 use crate::receive;
+use crate::refusal;
 use crate::send;
 use crate::send_marker;
 use model::Answer;
-use model::Outcome;
 use model::Refusal;
 use model::State;
 use model::Step;
@@ -21,18 +21,10 @@ pub fn step(state: State, step: Step, store: &mut [u32], budget: u32) -> Answer
     ensures { λ r. ⌜ Answers state step (now (store .entry)) budget r (now (store .exit)) ⌝ }
 {
     if !sound::sound(state) {
-        return Answer {
-            outcome: Outcome::Refused(Refusal::Unsound),
-            made: 0,
-            state,
-        };
+        return refusal::refused(state, Refusal::Unsound);
     }
     if store.len() < layout::STORE_CELLS {
-        return Answer {
-            outcome: Outcome::Refused(Refusal::ShortStore),
-            made: 0,
-            state,
-        };
+        return refusal::refused(state, Refusal::ShortStore);
     }
     match step {
         Step::Send { channel, body } => send::send(state, channel, body),

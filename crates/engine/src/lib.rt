@@ -7,6 +7,7 @@ mod entries;
 mod logical_checkpoint;
 mod physical_checkpoint;
 mod receive;
+mod refusal;
 mod send;
 mod send_marker;
 mod start;

@@ -1,4 +1,5 @@
 // Step 5, the logical checkpoint of a process (document 01's mark): it turns the process's tag over.
+use crate::refusal;
 use model::Answer;
 use model::Outcome;
 use model::Refusal;
@@ -17,11 +18,7 @@ pub fn logical_checkpoint(mut s: State, process: u8) -> Answer
 {
     let t = s.topology;
     if t.processes <= process {
-        return Answer {
-            outcome: Outcome::Refused(Refusal::NoSuch),
-            made: 0,
-            state: s,
-        };
+        return refusal::refused(s, Refusal::NoSuch);
     }
     let at = process as usize;
     let mut f = s.flags;
@@ -30,11 +27,7 @@ pub fn logical_checkpoint(mut s: State, process: u8) -> Answer
     let in_turn = (process == 0) | f.logical[0];
     let may = phase::is_logical(phase) & !f.logical[at] & in_turn;
     if !may {
-        return Answer {
-            outcome: Outcome::Refused(Refusal::NotNow),
-            made: 0,
-            state: s,
-        };
+        return refusal::refused(s, Refusal::NotNow);
     }
     f.logical[at] = true;
     s.flags = f;

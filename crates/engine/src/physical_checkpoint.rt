@@ -1,5 +1,6 @@
 // Step 4, the physical checkpoint of a process (document 01's copy): its word goes into the store. After the last one
 // the logical phase starts.
+use crate::refusal;
 use crate::store;
 use model::Answer;
 use model::Outcome;
@@ -41,20 +42,12 @@ pub fn physical_checkpoint(mut s: State, process: u8, store: &mut [u32], budget:
 {
     let t = s.topology;
     if t.processes <= process {
-        return Answer {
-            outcome: Outcome::Refused(Refusal::NoSuch),
-            made: 0,
-            state: s,
-        };
+        return refusal::refused(s, Refusal::NoSuch);
     }
     let round = s.round;
     let phase = round.phase;
     if !phase::is_next(phase, process) {
-        return Answer {
-            outcome: Outcome::Refused(Refusal::NotNow),
-            made: 0,
-            state: s,
-        };
+        return refusal::refused(s, Refusal::NotNow);
     }
     let at = layout::physical_cell(round.line + 1, process);
     let word = s.words[process as usize];

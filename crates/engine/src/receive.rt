@@ -1,11 +1,10 @@
 // Step 2, receive (document 01's take): the first entry of a channel, a marker or a message, leaves it. What it does is
 // decided once, by its reaction: what turns the receive down, what it writes and what it changes follow from that.
 use crate::entries;
+use crate::refusal;
 use crate::store;
 use model::Answer;
-use model::Counts;
 use model::Entry;
-use model::Flags;
 use model::Outcome;
 use model::Refusal;
 use model::State;
@@ -17,30 +16,31 @@ use rules::reaction::Reaction;
 use rules::word;
 ghost use mathlib.Core.Path.{_≡_};
 ghost use mathlib.Core.Bool.{true, false};
-ghost use Prim.Native.Nat.{_≤_, _<_};
+ghost use Prim.Native.Nat.{_≤_};
 ghost use lib.ListN.{length};
 ghost use Rattle.model.specs.declared.Step.the-variants.{Receive};
 ghost use Rattle.model.specs.Check.{firstRefusal};
 ghost use Rattle.model.specs.Outcome.{refusalOf};
-ghost use Rattle.model.specs.Topology.{processLimit, channelLimit};
 ghost use Rattle.model.specs.Layout.{storeCells};
-ghost use Rattle.model.specs.State.{view, viewProgress, viewCounts, raisedAll};
+ghost use Rattle.model.specs.State.{view};
 ghost use Rattle.model.specs.Sound.{sound};
 ghost use Rattle.engine.specs.Answers.{Performs};
 ghost use Rattle.engine.specs.Spent.{Needed};
-ghost use Rattle.engine.specs.Receiving.{InArrays, logsOf, full, receiveChecks, bodyWrites, Attempts};
-ghost use Rattle.engine.specs.Receiving.{wordAfter, flagsAfter};
+ghost use Rattle.engine.specs.Receiving.{InArrays, full, receiveChecks, bodyWrites, Attempts, wordAfter};
+ghost use Rattle.engine.specs.Receiving.{answeredWith};
 
 // What a body in a log costs: its entry, and the raised count.
 const LOG_WRITES: u32 = 2;
 
-// Where an entry is received: its channel, with how many entries, closed or not; its receiver; and every log's count.
+// Where an entry is received: its channel, with how many entries, closed or not; its receiver; and how many entries the
+// logs of the two have.
 struct Setting {
     channel: u8,
     entries: u8,
     closed: bool,
     receiver: u8,
-    counts: Counts,
+    in_channel: u8,
+    in_messages: u8,
 }
 
 // What came of an attempt to receive an entry: whether it was received, the outcome, and the writes made.
@@ -55,17 +55,14 @@ fn check(x: Reaction, at: Setting) -> Verdict
     requires { ⌜ InArrays at ⌝ }
     ensures { λ r. ⌜ refusalOf r ≡ firstRefusal (receiveChecks x at) ⌝ }
 {
-    let counts = at.counts;
     if at.entries == 0 {
         return Verdict::Refuse(Refusal::ChannelEmpty);
     }
     if x.closes & at.closed {
         return Verdict::Refuse(Refusal::MarkerOnClosed);
     }
-    let in_channel = counts.channels[at.channel as usize];
-    let in_messages = counts.messages[at.receiver as usize];
-    let channel_full = x.channel_log & (layout::CHANNEL_PLACES <= in_channel);
-    let message_full = x.message_log & (layout::MESSAGE_PLACES <= in_messages);
+    let channel_full = x.channel_log & (layout::CHANNEL_PLACES <= at.in_channel);
+    let message_full = x.message_log & (layout::MESSAGE_PLACES <= at.in_messages);
     if channel_full | message_full {
         return Verdict::Refuse(Refusal::LogFull);
     }
@@ -78,14 +75,11 @@ fn log(x: Reaction, at: Setting, line: u32, body: u32, store: &mut [u32], budget
     requires { ⌜ InArrays at × (full x at ≡ false) × (storeCells ≤ length (now store)) ⌝ }
     ensures { λ r. ⌜ Needed (now (store .entry)) budget (bodyWrites x at line body) (now (store .exit)) r ⌝ }
 {
-    let counts = at.counts;
     let next = std::num::wrapping_add_u32(line, 1);
-    let in_channel = counts.channels[at.channel as usize];
     let channel = layout::channel_count_cell(next, at.channel);
-    let left = store::append(store, budget, x.channel_log, channel, in_channel, body);
-    let in_messages = counts.messages[at.receiver as usize];
+    let left = store::append(store, budget, x.channel_log, channel, at.in_channel, body);
     let message = layout::message_count_cell(next, at.receiver);
-    store::append(store, left, x.message_log, message, in_messages, body);
+    store::append(store, left, x.message_log, message, at.in_messages, body);
     LOG_WRITES * (x.channel_log as u32 + x.message_log as u32)
 }
 
@@ -133,30 +127,16 @@ fn word_after(word: u32, e: Entry) -> u32
     }
 }
 
-// The flags after it: the receiver has its logical checkpoint and the channel is closed, where the reaction says so.
-fn flags_after(flags: Flags, x: Reaction, channel: u8, receiver: u8) -> Flags
-    requires { ⌜ (channel < channelLimit) × (receiver < processLimit) ⌝ }
-    ensures { λ r. ⌜ viewProgress r ≡ flagsAfter x channel receiver flags ⌝ }
+// What a receive answers, with this state.
+fn answered(came: Reception, state: State) -> Answer
+    ensures { λ r. ⌜ r ≡ answeredWith came state ⌝ }
 {
-    let mut r = flags;
-    let at = channel as usize;
-    let to = receiver as usize;
-    r.logical[to] = r.logical[to] | x.logical_first;
-    r.closed[at] = r.closed[at] | x.closes;
-    r
-}
-
-// The logs' counts after it: one entry more in each log that the reaction needs.
-fn counts_after(at: Setting, x: Reaction) -> Counts
-    requires { ⌜ InArrays at ⌝ }
-    ensures { λ r. ⌜ viewCounts r ≡ raisedAll (logsOf x at) (viewCounts (at .counts)) ⌝ }
-{
-    let mut r = at.counts;
-    let c = at.channel as usize;
-    let to = at.receiver as usize;
-    r.channels[c] = r.channels[c] + x.channel_log as u8;
-    r.messages[to] = r.messages[to] + x.message_log as u8;
-    r
+    let outcome = came.outcome;
+    Answer {
+        outcome,
+        made: came.made,
+        state,
+    }
 }
 
 pub fn receive(mut s: State, channel: u8, store: &mut [u32], budget: u32) -> Answer
@@ -165,18 +145,15 @@ pub fn receive(mut s: State, channel: u8, store: &mut [u32], budget: u32) -> Ans
 {
     let t = s.topology;
     if t.channels <= channel {
-        return Answer {
-            outcome: Outcome::Refused(Refusal::NoSuch),
-            made: 0,
-            state: s,
-        };
+        return refusal::refused(s, Refusal::NoSuch);
     }
     let index = channel as usize;
     let c = s.channels[index];
     let e = channel::entry_at(c, 0);
     let receiver = t.to[index];
     let to = receiver as usize;
-    let flags = s.flags;
+    let mut flags = s.flags;
+    let mut counts = s.counts;
     let round = s.round;
     let phase = round.phase;
     let x = reaction::react(phase, receiver, flags.logical[to], s.tags[to], e);
@@ -185,26 +162,21 @@ pub fn receive(mut s: State, channel: u8, store: &mut [u32], budget: u32) -> Ans
         entries: c.count,
         closed: flags.closed[index],
         receiver,
-        counts: s.counts,
+        in_channel: counts.channels[index],
+        in_messages: counts.messages[to],
     };
     let came = attempt(x, at, e, round.line, store, budget);
-    let outcome = came.outcome;
-    let made = came.made;
     if !came.received {
-        return Answer {
-            outcome,
-            made,
-            state: s,
-        };
+        return answered(came, s);
     }
     s.channels[index] = entries::pop(c);
     s.words[to] = word_after(s.words[to], e);
     s.tags[to] = s.tags[to] != x.logical_first;
-    s.flags = flags_after(flags, x, channel, receiver);
-    s.counts = counts_after(at, x);
-    Answer {
-        outcome,
-        made,
-        state: s,
-    }
+    flags.logical[to] = flags.logical[to] | x.logical_first;
+    flags.closed[index] = flags.closed[index] | x.closes;
+    s.flags = flags;
+    counts.channels[index] = counts.channels[index] + x.channel_log as u8;
+    counts.messages[to] = counts.messages[to] + x.message_log as u8;
+    s.counts = counts;
+    answered(came, s)
 }

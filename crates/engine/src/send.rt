@@ -1,5 +1,6 @@
 // Step 1, send: a message after the others on its channel, with its sender's tag.
 use crate::entries;
+use crate::refusal;
 use model::Answer;
 use model::Entry;
 use model::Outcome;
@@ -19,20 +20,12 @@ pub fn send(mut s: State, channel: u8, body: u32) -> Answer
 {
     let t = s.topology;
     if t.channels <= channel {
-        return Answer {
-            outcome: Outcome::Refused(Refusal::NoSuch),
-            made: 0,
-            state: s,
-        };
+        return refusal::refused(s, Refusal::NoSuch);
     }
     let at = channel as usize;
     let c = s.channels[at];
     if ROOM <= c.count as usize {
-        return Answer {
-            outcome: Outcome::Refused(Refusal::ChannelFull),
-            made: 0,
-            state: s,
-        };
+        return refusal::refused(s, Refusal::ChannelFull);
     }
     let from = t.from[at] as usize;
     let tag = s.tags[from];

@@ -1,5 +1,6 @@
 // Step 6, a marker (document 01's note) after the entries of a channel, once its sender has its logical checkpoint.
 use crate::entries;
+use crate::refusal;
 use model::Answer;
 use model::Entry;
 use model::Outcome;
@@ -20,11 +21,7 @@ pub fn send_marker(mut s: State, channel: u8) -> Answer
 {
     let t = s.topology;
     if t.channels <= channel {
-        return Answer {
-            outcome: Outcome::Refused(Refusal::NoSuch),
-            made: 0,
-            state: s,
-        };
+        return refusal::refused(s, Refusal::NoSuch);
     }
     let at = channel as usize;
     let round = s.round;
@@ -32,19 +29,11 @@ pub fn send_marker(mut s: State, channel: u8) -> Answer
     let mut f = s.flags;
     let may = phase::is_logical(phase) & f.logical[t.from[at] as usize] & !f.sent[at];
     if !may {
-        return Answer {
-            outcome: Outcome::Refused(Refusal::NotNow),
-            made: 0,
-            state: s,
-        };
+        return refusal::refused(s, Refusal::NotNow);
     }
     let c = s.channels[at];
     if ROOM <= c.count as usize {
-        return Answer {
-            outcome: Outcome::Refused(Refusal::ChannelFull),
-            made: 0,
-            state: s,
-        };
+        return refusal::refused(s, Refusal::ChannelFull);
     }
     f.sent[at] = true;
     s.flags = f;

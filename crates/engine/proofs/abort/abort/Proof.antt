@@ -45,8 +45,9 @@ abbrev μ-loop : tie.MeasureT-loop
 
 returns : tie.Need-returns Inv-loop μ-loop
 returns c =
-    let s = c .before .before .before .args .t1 in
-    quiet-refused s _ _ (not-now s (sym (c .before .is-idle .ensures) ∙ c .if1 .taken))
+    let asked = c .before .before in
+    let s = asked .before .before .args .t1 in
+    quiet-refused s _ _ (not-now s (sym (asked .is-idle .ensures) ∙ c .before .if1 .taken)) (c .refused .ensures)
 
 -- the round is under way
 abbrev start : tie.Else1 Inv-loop μ-loop → tie.Start Inv-loop μ-loop
@@ -116,6 +117,7 @@ abort-spec =
     (tie.spec
     Inv-loop
     μ-loop
+    (λ c κs. search needs)
     (λ c κs. search needs)
     returns
     loop-holds

@@ -49,17 +49,19 @@ start p = p .before .before .before .before
 
 returns : tie.Need-returns
 returns c =
-    let s = start (c .before) .args .s in
-    performs-refused s Begin _ _ NotNow (not-now s (sym (c .before .is-idle .ensures) ∙ not-true _ (c .if1 .taken)))
+    let asked = c .before .before in
+    let s = start asked .args .s in
+    performs-refused s Begin _ _ NotNow (not-now s (sym (asked .is-idle .ensures) ∙ not-true _ (c .before .if1 .taken)))
+    (c .refused .ensures)
 
 idle : (d : tie.Else1) → isIdle (start (d .before) .args .s .round .phase) ≡ true
 idle d = sym (d .before .is-idle .ensures) ∙ not-false _ (d .if1 .left)
 
 returns-2 : tie.Need-returns-2
 returns-2 c =
-    let d = c .before .before in
+    let d = c .before .before .before in
     let s = start (d .before) .args .s in
-    performs-refused s Begin _ _ LastLine (last-line s (idle d) (c .if2 .taken))
+    performs-refused s Begin _ _ LastLine (last-line s (idle d) (c .before .if2 .taken)) (c .refused2 .ensures)
 
 -- the round may begin
 module _ (e : tie.Else2) where
@@ -109,7 +111,9 @@ begin-spec =
     tie.close
     (tie.spec
     (λ c κs. search needs)
+    (λ c κs. search needs)
     returns
+    (λ c κs. search needs)
     returns-2
     (λ c. omega (arith, c .before .before .if2 .left))
     clear-requires

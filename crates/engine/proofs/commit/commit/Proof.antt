@@ -67,9 +67,9 @@ may-commit-requires c κs =
 
 returns : tie.Need-returns
 returns c =
-    let asked = c .before in
+    let asked = c .before .before in
     performs-refused (state asked) Commit _ _ NotNow
-    (not-now (state asked) (decided asked ∙ not-true _ (c .if1 .taken)))
+    (not-now (state asked) (decided asked ∙ not-true _ (c .before .if1 .taken))) (c .refused .ensures)
 
 through : (d : tie.Else1) → mayCommit (view (state (d .before))) ≡ true
 through d = decided (d .before) ∙ not-false _ (d .if1 .left)
@@ -113,6 +113,7 @@ commit-spec =
     tie.close
     (tie.spec
     may-commit-requires
+    (λ c κs. search needs)
     returns
     add-line
     (λ c κs. omega (arith, start (c .before .before .before) .pre .1))

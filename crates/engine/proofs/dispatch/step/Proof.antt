@@ -49,12 +49,15 @@ module _ (d : tie.Else2) where
   needed = (sounds, d .if2 .left)
 
 returns : tie.Need-returns
-returns c = step-unsound _ _ _ _ (sym (c .before .sound .ensures) ∙ not-true _ (c .if1 .taken))
+returns c =
+    let t = c .before in
+    step-unsound _ _ _ _ (sym (t .before .sound .ensures) ∙ not-true _ (t .if1 .taken)) (c .refused .ensures)
 
 returns-2 : tie.Need-returns-2
 returns-2 c =
-    let d = c .before in
-    step-short _ _ _ _ (sym (d .before .sound .ensures) ∙ not-false _ (d .if1 .left)) (c .if2 .taken)
+    let d = c .before .before in
+    step-short _ _ _ _ (sym (d .before .sound .ensures) ∙ not-false _ (d .if1 .left)) (c .before .if2 .taken)
+    (c .refused2 .ensures)
 
 returns-3 : tie.Need-returns-3
 returns-3 c =
@@ -105,7 +108,9 @@ step-spec =
     tie.close
     (tie.spec
     (λ c κs. search needs)
+    (λ c κs. search needs)
     returns
+    (λ c κs. search needs)
     returns-2
     (λ c. search needs)
     (λ c κs. sounds (c .before .before .before))

@@ -52,8 +52,8 @@ module _ (d : tie.Else1) where
 
 returns : tie.Need-returns
 returns c =
-    let a = c .before .before .before .args in
-    quiet-refused (a .t1) _ _ (missing (a .t1) (a .process) (c .if1 .taken))
+    let a = c .before .before .before .before .args in
+    quiet-refused (a .t1) _ _ (missing (a .t1) (a .process) (c .before .if1 .taken)) (c .refused .ensures)
 
 -- once it was asked whether the process may have it
 abbrev planned : tie.After-may → tie.Else1
@@ -71,8 +71,9 @@ allowed c = rw (← (c .before .before .is-logical .ensures)) (not-false _ (c .i
 
 returns-2 : tie.Need-returns-2
 returns-2 c =
-    let d = planned (c .before) in
-    quiet-refused (state d) _ _ (not-now (state d) (process d) (d .if1 .left) (refused c))
+    let d = planned (c .before .before) in
+    quiet-refused (state d) _ _ (not-now (state d) (process d) (d .if1 .left) (refused (c .before)))
+    (c .refused2 .ensures)
 
 returns-3 : tie.Need-returns-3
 unfolding effect
@@ -87,10 +88,12 @@ pub logical-checkpoint-spec : {M : Type 1} → statement M
 logical-checkpoint-spec =
     tie.close
     (tie.spec
+    (λ c κs. search needs)
     returns
     (λ c. search needs)
     (λ c κs. search needs)
     (λ c. below (c .before .before .before .before))
+    (λ c κs. search needs)
     returns-2
     (λ c. below (planned (c .before)))
     (λ c. omega (arith, below (planned (c .before))))

@@ -59,16 +59,17 @@ start d = d .before .before .before .before
 
 returns : tie.Need-returns
 returns c =
-    let a = c .before .before .before .before .args in
-    performs-refused (a .t1) _ _ _ NoSuch (missing (a .t1) (a .process) (c .if1 .taken))
+    let a = c .before .before .before .before .before .args in
+    performs-refused (a .t1) _ _ _ NoSuch (missing (a .t1) (a .process) (c .before .if1 .taken)) (c .refused .ensures)
 
 returns-2 : tie.Need-returns-2
 returns-2 c =
-    let asked = c .before in
+    let asked = c .before .before in
     let d = asked .before .before in
     let a = start d .args in
     performs-refused (a .t1) _ _ _ NotNow
-    (not-now (a .t1) (a .process) (d .if1 .left) (sym (asked .is-next .ensures) ∙ not-true _ (c .if2 .taken)))
+    (not-now (a .t1) (a .process) (d .if1 .left) (sym (asked .is-next .ensures) ∙ not-true _ (c .before .if2 .taken)))
+    (c .refused2 .ensures)
 
 -- it is the next one
 module _ (e : tie.Else2) where
@@ -159,7 +160,9 @@ pub physical-checkpoint-spec : {M : Type 1} → statement M
 physical-checkpoint-spec =
     tie.close
     (tie.spec
+    (λ c κs. search needs)
     returns
+    (λ c κs. search needs)
     (λ c κs. search needs)
     returns-2
     add-physical-cell

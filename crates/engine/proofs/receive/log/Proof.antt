@@ -4,29 +4,26 @@ use native.Mathlib.Omega.{arith}
 use Prim.Native.Nat.{ℕ, _+_}
 use mathlib.Core.Path.{_≡_, sym, ap, _∙_}
 use Rattle.model.specs.Layout.{messageLog, channelLog, countCell}
-use Rattle.model.specs.State.{viewCounts}
 use Rattle.rules.specs.declared.reaction.Reaction.{Reaction}
-use Rattle.rules.specs.Reacting.{viewReaction}
 use Rattle.engine.proofs.Stores.{spent-then, spent-length}
-use Rattle.engine.proofs.Receptions.{a-bit, both-written, both-cost, same-cell, moved, channel-place}
-use Rattle.engine.proofs.Receptions.{message-place}
+use Rattle.engine.proofs.Receptions.{a-bit, both-cost, same-cell, moved, channel-place, message-place}
 use Rattle.engine.proofs.receive.log.Statement.{statement}
 use Rattle.engine.proofs.receive.log.Tie as tie
 
 -- the cells of the two counts
 abbrev start : tie.After-channel-count-cell → tie.Start
-start p = p .before .before .before .before .before .before
+start p = p .before .before .before
 
 channel-at : (p : tie.After-channel-count-cell)
     → p .channel-count-cell .result ≡ countCell (start p .args .line + 1) (channelLog (start p .args .at .channel))
 channel-at p =
     p .channel-count-cell .ensures
     ∙ ap (λ (n : ℕ). countCell n (channelLog (start p .args .at .channel)))
-    (p .before .before .before .wrapping-add-u32 .ensures)
+    (p .before .wrapping-add-u32 .ensures)
     ∙ same-cell (start p .args .line) (channelLog (start p .args .at .channel))
 
 abbrev first : tie.After-message-count-cell → tie.After-append
-first m = m .before .before .before .before .before
+first m = m .before .before .before
 
 message-at : (m : tie.After-message-count-cell)
     → let a = start (first m .before .before) .args in
@@ -35,7 +32,7 @@ message-at m =
     let p = first m .before .before in
     let a = start p .args in
     m .message-count-cell .ensures
-    ∙ ap (λ (n : ℕ). countCell n (messageLog (a .at .receiver))) (p .before .before .before .wrapping-add-u32 .ensures)
+    ∙ ap (λ (n : ℕ). countCell n (messageLog (a .at .receiver))) (p .before .wrapping-add-u32 .ensures)
     ∙ same-cell (a .line) (messageLog (a .at .receiver))
 
 append-requires : tie.Need-append-requires
@@ -59,10 +56,10 @@ append-requires-2 c κs = λ needed.
       spent-length (f .append .ensures),
     ))
 
-abbrev second : tie.After-struct-known4 → tie.After-append2
+abbrev second : tie.After-struct-known2 → tie.After-append2
 second c = c .before .before .before .before
 
-abbrev reaction : tie.After-struct-known4 → Reaction
+abbrev reaction : tie.After-struct-known2 → Reaction
 reaction c = start (first (second c .before .before) .before .before) .args .x
 
 add-result : tie.Need-add-result
@@ -72,7 +69,6 @@ mul-result : tie.Need-mul-result
 mul-result c = let x = reaction c in omega (arith, a-bit (x .«channel_log»), a-bit (x .«message_log»))
 
 returns : tie.Need-returns
-unfolding viewReaction viewCounts
 returns c =
     let y = second c in
     let m = y .before .before in
@@ -80,23 +76,16 @@ returns c =
     let a = start (f .before .before) .args in
     let made = moved (a .x .«channel_log») _ _ _ (a .body) (channel-at (f .before .before)) (f .append .ensures) in
     let rest = moved (a .x .«message_log») _ _ _ (a .body) (message-at m) (y .append2 .ensures) in
-    let ws = both-written (viewCounts (a .at .counts)) (a .at .channel) (a .at .receiver) (a .line + 1) (a .body)
-    (a .x .«channel_log») (a .x .«message_log») in
-    let whole = spent-then made rest in
     let cost = both-cost (a .x .«channel_log») (a .x .«message_log») _ _ _ _ _ in
-    rw ws (record { store = whole .store; needed = sym cost })
+    record { store = spent-then made rest .store; needed = sym cost }
 
 pub log-spec : {M : Type 1} → statement M
 log-spec =
     tie.close
     (tie.spec
     (λ c κs. search needs)
-    (λ c. search needs)
-    (λ c. search needs)
     (λ c κs. search needs)
     append-requires
-    (λ c. search needs)
-    (λ c. search needs)
     (λ c κs. search needs)
     append-requires-2
     (λ c. search needs)

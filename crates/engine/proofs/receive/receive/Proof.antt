@@ -3,32 +3,31 @@
 use borrow.Author.Needs.{needs}
 use borrow.Author.Tests.{not-true, not-false}
 use native.Mathlib.Omega.{arith}
-use Prim.Native.Nat.{ℕ, _<_}
+use Prim.Native.Nat.{ℕ, _<_, _≤_}
 use mathlib.Core.Path.{_≡_, refl}
-use mathlib.Core.Bool.{Bool}
 use lib.ListN.{length, getD}
 use Rattle.model.specs.declared.State.{State}
 use Rattle.model.specs.declared.Entry.{Entry}
 use Rattle.model.specs.Topology.{processLimit, channelLimit, receiver}
-use Rattle.model.specs.Channel.{entries}
+use Rattle.model.specs.Layout.{messagePlaces, channelPlaces}
 use Rattle.model.specs.State.{view, viewProgress}
 use Rattle.model.specs.Step.{reaction}
 use Rattle.rules.specs.declared.reaction.Reaction.{Reaction}
 use Rattle.rules.specs.Reacting.{viewReaction}
-use Rattle.engine.specs.Receiving.{InArrays}
 use Rattle.engine.proofs.Bounds.{channel-bound, receiver-bound, entries-bound, channel-log-bound}
 use Rattle.engine.proofs.Bounds.{message-log-bound}
 use Rattle.engine.proofs.Lengths.{Lengths, lengths}
 use Rattle.engine.proofs.Views.{channel-read}
 use Rattle.engine.proofs.Promises.{performs-refused}
+use Rattle.engine.proofs.Receptions.{a-bit}
 use Rattle.engine.proofs.ReceiveMeets.{no-channel, has-entry, receive-stopped, receive-done, changed-seen}
 use Rattle.engine.proofs.receive.receive.Statement.{statement}
 use Rattle.engine.proofs.receive.receive.Tie as tie
 
 returns : tie.Need-returns
 returns c =
-    let a = c .before .before .before .args in
-    performs-refused (a .t1) _ _ _ _ (no-channel (a .t1) (a .channel) (c .if1 .taken))
+    let a = c .before .before .before .before .args in
+    performs-refused (a .t1) _ _ _ _ (no-channel (a .t1) (a .channel) (c .before .if1 .taken)) (c .refused .ensures)
 
 -- a planned channel: its index and its receiver's are within the arrays
 module _ (d : tie.Else1) where
@@ -56,19 +55,15 @@ module _ (d : tie.Else1) where
   to-below : to < processLimit
   to-below = receiver-bound state (start .pre .0) channel (d .if1 .left)
 
-  arrays : (n : ℕ) (t : Bool)
-      → InArrays (record { channel = channel; entries = n; closed = t; receiver = to; counts = state .counts })
-  arrays n t =
-      record {
-        channel = below;
-        receiver = to-below;
-        inChannel = channel-log-bound state (start .pre .0) channel (d .if1 .left);
-        inMessages = message-log-bound state (start .pre .0) channel (d .if1 .left);
-      }
+  in-channel : getD (state .counts .channels) channel 0 ≤ channelPlaces
+  in-channel = channel-log-bound state (start .pre .0) channel (d .if1 .left)
+
+  in-messages : getD (state .counts .messages) to 0 ≤ messagePlaces
+  in-messages = message-log-bound state (start .pre .0) channel (d .if1 .left)
 
 -- once the receiver is read
 abbrev known : tie.After-round → tie.Else1
-known p = p .before .before .before .before .before
+known p = p .before .before .before .before .before .before
 
 -- once the reaction is decided
 module _ (p : tie.After-react) where
@@ -79,7 +74,7 @@ module _ (p : tie.After-react) where
   x = p .react .result
 
   abbrev read-at : tie.After-entry-at
-  read-at = p .before .before .before .before .before .before
+  read-at = p .before .before .before .before .before .before .before
 
   abbrev entry : Entry
   entry = read-at .entry-at .result
@@ -89,9 +84,14 @@ module _ (p : tie.After-react) where
   unfolding reaction receiver view viewProgress
   reacts = p .react .ensures (channel d)
 
+attempt-requires : tie.Need-attempt-requires
+attempt-requires c κs =
+    let e = d (c .before .before .before .before) in
+    (record { channel = below e; receiver = to-below e }, start e .pre .1)
+
 -- once it was tried
 abbrev decided : tie.After-attempt → tie.After-react
-decided t = t .before .before .before .before
+decided t = t .before .before .before .before .before
 
 abbrev tried : tie.After-struct-known → tie.After-attempt
 tried t = t .before .before .before
@@ -99,20 +99,35 @@ tried t = t .before .before .before
 -- it was stopped
 same-length : tie.Need-same-length
 same-length c =
-    search (needs, c .before .before .slice-known2, c .before .before .before .store, tried (c .before) .attempt)
+    let t = c .before .before in
+    search (needs, t .before .slice-known2, t .before .before .store, tried t .attempt)
 
 returns-2 : tie.Need-returns-2
 unfolding receiver view viewProgress
 returns-2 c =
-    let t = tried (c .before) in
+    let t = tried (c .before .before) in
     let p = decided t in
     let e = d p in
     receive-stopped (state e) (channel e) (e .if1 .left) _ (channel-read (state e) (channel e) (within e) _) (entry p)
-    (read-at p .entry-at .ensures) (x p) (reacts p) _ _ _ _ (t .attempt .ensures) (not-true _ (c .if2 .taken))
+    (read-at p .entry-at .ensures) (x p) (reacts p) _ _ _ _ (t .attempt .ensures) (not-true _ (c .before .if2 .taken))
+    (c .answered .ensures)
 
 -- it came off
 abbrev came-off : tie.After-pop → tie.Else1
 came-off q = d (decided (tried (q .before .before)))
+
+-- back from the counts to the flags, to the tag, to the word, to the channel without its first entry
+abbrev flagged : tie.After-struct-known6 → tie.After-struct-known4
+flagged q = q .before .before .before .before
+
+abbrev tagged : tie.After-struct-known4 → tie.After-struct-known2
+tagged q = q .before .before .before .before
+
+abbrev worded : tie.After-struct-known2 → tie.After-word-after
+worded q = q .before .before
+
+abbrev popped : tie.After-struct-known2 → tie.After-pop
+popped q = worded q .before .before
 
 pop-requires : tie.Need-pop-requires
 unfolding receiver view viewProgress
@@ -128,32 +143,40 @@ pop-requires c κs =
 
 same-length-2 : tie.Need-same-length-2
 same-length-2 c =
-    let t : tie.Else2 = c .before .before .before .before .before .before .before in
-    search
-    (needs, t .before .before .slice-known2, t .before .before .before .store, tried (t .before) .attempt)
+    let t = popped (tagged (flagged (c .before))) .before .before in
+    search (needs, t .before .slice-known2, t .before .before .store, tried t .attempt)
+
+add-counts : tie.Need-add-counts
+add-counts c =
+    let q = popped (tagged (c .before .before)) in
+    let added = x (decided (tried (q .before .before))) .«channel_log» in
+    omega (arith, a-bit added, in-channel (came-off q))
+
+add-counts-2 : tie.Need-add-counts-2
+add-counts-2 c =
+    let q = popped (tagged (flagged c)) in
+    let added = x (decided (tried (q .before .before))) .«message_log» in
+    omega (arith, a-bit added, in-messages (came-off q))
 
 returns-3 : tie.Need-returns-3
 unfolding receiver view viewProgress
 returns-3 c =
-    let flagged = c .before in
-    let worded = flagged .before .before .before in
-    let popped = worded .before .before in
-    let stood = popped .before .before in
+    let g = tagged (flagged (c .before)) in
+    let stood = popped g .before .before in
     let p = decided (tried stood) in
     let e = d p in
-    let i : to e < length (state e .words) = omega (arith, to-below e, sizes e .words) in
-    let j : to e < length (state e .tags) = omega (arith, to-below e, sizes e .tags) in
     receive-done (state e) (channel e) (e .if1 .left) _ (channel-read (state e) (channel e) (within e) _) (entry p)
     (read-at p .entry-at .ensures) (x p) (reacts p) _ _ _ _ (tried stood .attempt .ensures)
-    (not-false _ (popped .before .if2 .left)) _
-    (changed-seen (state e) (channel e) (to e) (popped .pop .result) (worded .word-after .result) _
-    (flagged .flags-after .result) (c .counts-after .result) (within e) i j (x p) (entry p) _ (popped .pop .ensures)
-    (worded .word-after .ensures) refl (flagged .flags-after .ensures) (c .counts-after .ensures))
+    (not-false _ (popped g .before .if2 .left)) _
+    (changed-seen (state e) (sizes e) (channel e) (to e) (below e) (to-below e) (popped g .pop .result)
+    (worded g .word-after .result) _ (x p) (entry p) _ (popped g .pop .ensures) (worded g .word-after .ensures) refl)
+    (c .answered2 .ensures)
 
 pub receive-spec : {M : Type 1} → statement M
 receive-spec =
     tie.close
     (tie.spec
+    (λ c κs. search needs)
     returns
     (λ c. search needs)
     (λ c. below c)
@@ -164,11 +187,14 @@ receive-spec =
     (λ c. to-below (known (c .before)))
     (λ c κs. search needs)
     (λ c. below (d c))
-    (λ c κs. let e = d (c .before .before .before) in (arrays e _ _, start e .pre .1))
+    (λ c. below (d (c .before)))
+    (λ c. to-below (d (c .before .before)))
+    attempt-requires
+    (λ c κs. search needs)
     same-length
     returns-2
     pop-requires
-    (λ c. search needs)
+    (λ c. omega (arith, below (came-off c)))
     (λ c. below (came-off c))
     (λ c. omega (arith, to-below (came-off c)))
     (λ c. to-below (came-off c))
@@ -176,8 +202,19 @@ receive-spec =
     (λ c. omega (arith, to-below (came-off (c .before .before))))
     (λ c. to-below (came-off (c .before .before)))
     (λ c. to-below (came-off (c .before .before)))
-    (λ c. to-below (came-off (c .before .before .before .before)))
-    (λ c κs. let e = came-off (c .before .before .before .before) in (below e, to-below e))
-    (λ c κs. arrays (came-off (c .before .before .before .before .before)) _ _)
+    (λ c. to-below (came-off (popped c)))
+    (λ c. to-below (came-off (popped c)))
+    (λ c. to-below (came-off (popped (c .before .before))))
+    (λ c. below (came-off (popped (c .before .before))))
+    (λ c. below (came-off (popped (tagged c))))
+    (λ c. below (came-off (popped (tagged c))))
+    (λ c. search needs)
+    add-counts
+    (λ c. below (came-off (popped (tagged (c .before .before)))))
+    (λ c. to-below (came-off (popped (tagged (c .before .before)))))
+    (λ c. search needs)
+    add-counts-2
+    (λ c. to-below (came-off (popped (tagged (flagged c)))))
+    (λ c κs. search needs)
     same-length-2
     returns-3)

@@ -62,16 +62,17 @@ within d = omega (arith, below d, lengths (start d .args .t1) _ (start d .good .
 
 returns : tie.Need-returns
 returns c =
-    let a = c .before .before .args in
-    quiet-refused (a .t1) _ _ (missing (a .t1) (a .channel) (a .body) (c .if1 .taken))
+    let a = c .before .before .before .args in
+    quiet-refused (a .t1) _ _ (missing (a .t1) (a .channel) (a .body) (c .before .if1 .taken)) (c .refused .ensures)
 
 returns-2 : tie.Need-returns-2
 returns-2 c =
-    let d = c .before .before .before in
+    let d = c .before .before .before .before in
     let a = start d .args in
     quiet-refused (a .t1) _ _
     (full (a .t1) (a .channel) (a .body) (d .if1 .left) _ (channel-read (a .t1) (a .channel) (within d) _)
-    (c .if2 .taken))
+    (c .before .if2 .taken))
+    (c .refused2 .ensures)
 
 -- past both refusals
 abbrev planned : tie.Else2 → tie.Else1
@@ -103,10 +104,12 @@ pub send-spec : {M : Type 1} → statement M
 send-spec =
     tie.close
     (tie.spec
+    (λ c κs. search needs)
     returns
     (λ c. search needs)
     (λ c. below c)
     (λ c. search needs)
+    (λ c κs. search needs)
     returns-2
     (λ c. below (planned c))
     (λ c. omega (arith, sender-within (c .before), receiver-within (c .before)))

@@ -76,7 +76,9 @@ module _ (d : tie.Else1) where
   sender-within = sender-bound _ (start .pre) _ (d .if1 .left)
 
 returns : tie.Need-returns
-returns c = let a = c .before .before .args in quiet-refused (a .t1) _ _ (missing (a .t1) (a .channel) (c .if1 .taken))
+returns c =
+    let a = c .before .before .before .args in
+    quiet-refused (a .t1) _ _ (missing (a .t1) (a .channel) (c .before .if1 .taken)) (c .refused .ensures)
 
 -- once it was asked whether the marker may be sent
 abbrev planned : tie.After-may3 → tie.Else1
@@ -88,8 +90,9 @@ refused c = rw (← (c .before .before .before .before .is-logical .ensures)) (n
 
 returns-2 : tie.Need-returns-2
 returns-2 c =
-    let d = planned (c .before) in
-    quiet-refused (state d) _ _ (not-now (state d) (channel d) (d .if1 .left) (refused c))
+    let d = planned (c .before .before) in
+    quiet-refused (state d) _ _ (not-now (state d) (channel d) (d .if1 .left) (refused (c .before)))
+    (c .refused2 .ensures)
 
 -- it may
 module _ (e : tie.Else2) where
@@ -105,9 +108,10 @@ module _ (e : tie.Else2) where
 
 returns-3 : tie.Need-returns-3
 returns-3 c =
-    let e = c .before .before .before in
+    let e = c .before .before .before .before in
     quiet-refused (state (p e)) _ _
-    (full (state (p e)) (channel (p e)) (p e .if1 .left) (allowed e) _ (read e _) (c .if3 .taken))
+    (full (state (p e)) (channel (p e)) (p e .if1 .left) (allowed e) _ (read e _) (c .before .if3 .taken))
+    (c .refused3 .ensures)
 
 abbrev roomy : tie.Else3 → tie.Else2
 roomy r = r .before .before .before
@@ -127,16 +131,19 @@ pub send-marker-spec : {M : Type 1} → statement M
 send-marker-spec =
     tie.close
     (tie.spec
+    (λ c κs. search needs)
     returns
     (λ c κs. search needs)
     (λ c. below (c .before .before .before))
     (λ c. search needs)
     (λ c. sender-within (c .before .before .before .before))
     (λ c. below (c .before .before .before .before .before))
+    (λ c κs. search needs)
     returns-2
     (λ c. search needs)
     (λ c. below (p c))
     (λ c. search needs)
+    (λ c κs. search needs)
     returns-3
     (λ c. below (p (roomy c)))
     (λ c κs. search needs)
