@@ -13,7 +13,7 @@ use lib.Seq.{take-nil}
 use Rattle.model.specs.declared.State.{State}
 use Rattle.model.specs.declared.Step.{Step}
 use Rattle.model.specs.declared.Answer.{Answer}
-use Rattle.model.specs.declared.Outcome.the-variants.{Done, Refused, PowerLost}
+use Rattle.model.specs.declared.Outcome.the-variants.{Done, PowerLost}
 use Rattle.model.specs.declared.Refusal.{Refusal}
 use Rattle.model.specs.declared.Refusal.the-variants.{Unsound, ShortStore}
 use Rattle.model.specs.Check.{firstRefusal}
