@@ -17,6 +17,7 @@ use Rattle.model.specs.Program.{serve, ofAnswer, ofStartup}
 use Rattle.engine.specs.Answers.{Answers}
 use Rattle.engine.specs.Starts.{Starts}
 use Rattle.report.specs.Appends.{Appends}
+use Rattle.report.specs.Bounds.{lineBytes}
 use Rattle.report.specs.Text.{outcomeText, recoverText}
 use Rattle.session.specs.declared.serve.Turn.{Turn}
 use Rattle.session.specs.Serving.{served, Serves}
@@ -27,7 +28,7 @@ next turn at s = record { number = turn .number + 1; at = at; state = s }
 module _ (T : Topology) (turn : Turn) {before after : List ℕ} {r : ℕ} where
   pub step-served : (x : Step) (store : List ℕ) (budget : ℕ) {a : Answer} {left : List ℕ}
       → Answers (turn .state) x store budget a left
-      → Appends before (turn .at) (outcomeText (turn .number) (a .outcome) (a .made)) after r
+      → Appends lineBytes before (turn .at) (outcomeText (turn .number) (a .outcome) (a .made)) after r
       → Serves turn (served T turn store budget (Call x)) before after (next turn r (a .state)) left
   unfolding serve ofAnswer
   step-served x store budget m t =
@@ -35,7 +36,7 @@ module _ (T : Topology) (turn : Turn) {before after : List ℕ} {r : ℕ} where
 
   module _ (store : List ℕ) (budget : ℕ) {x : Started} (s : Starts (recover T store) x store) where
     pub recover-served : x .start ≡ start.Ready
-        → Appends before (turn .at) (recoverText (turn .number) (x .state .round .line)) after r
+        → Appends lineBytes before (turn .at) (recoverText (turn .number) (x .state .round .line)) after r
         → Serves turn (served T turn store budget Recover) before after (next turn r (x .state)) store
     unfolding serve ofStartup view
     recover-served e t =
@@ -43,7 +44,7 @@ module _ (T : Topology) (turn : Turn) {before after : List ℕ} {r : ℕ} where
         (record { text = rw (← s .state) t; number = refl; state = s .state; store = s .store })
 
     pub recover-refused : {y : Refusal} → x .start ≡ start.Refused y
-        → Appends before (turn .at) (outcomeText (turn .number) (Refused y) 0) after r
+        → Appends lineBytes before (turn .at) (outcomeText (turn .number) (Refused y) 0) after r
         → Serves turn (served T turn store budget Recover) before after (next turn r (turn .state)) store
     unfolding serve ofStartup
     recover-refused e t =
