@@ -1,6 +1,6 @@
 -- Laws of a session's opening and of the whole of it: the plan is refused, or initialize is ready, the requests are
 -- served, and the last lines printed.
-use Prim.Native.Nat.{ℕ, _*_, _≤_}
+use Prim.Native.Nat.{ℕ, _+_, _*_, _≤_}
 use mathlib.Core.Path.{_≡_, sym, _∙_}
 use mathlib.Core.List.{List}
 use mathlib.Core.Option.{none, some}
@@ -28,7 +28,7 @@ use Rattle.report.specs.Bounds.{planRefusedBytes, processBytes, channelBytes, c
 use Rattle.report.specs.Text.{planRefusedText, outputText}
 use Rattle.report.proofs.Appending.{_then_, at-most}
 use Rattle.session.specs.Drill.{startStore, changedText, drillText}
-use Rattle.session.specs.Output.{outputBytes, processesText, channelsText, MayRun, Plays}
+use Rattle.session.specs.Output.{playedBytes, processesText, channelsText, MayRun, Plays}
 use Rattle.session.specs.Serving.{Prints}
 use Rattle.session.proofs.Plans.{whole}
 use Rattle.session.proofs.Lines.{report-text}
@@ -104,6 +104,6 @@ plays source store input e p = rw (← e) p
 -- `drill` plays on its starting store, and prints which cells differ from it
 pub drill-played : {store out m a left : List ℕ} {r q : ℕ} (input : List ℕ) → store ≡ startStore
     → Plays (played given store input) out m r left → Appends (storeCells * cellBytes) m r (changedText left) a q
-    → Appends outputBytes out 0 (drillText input) a q
+    → Appends (playedBytes + storeCells * cellBytes) out 0 (drillText input) a q
 unfolding drillText
 drill-played input e p c = rw (← e, ← p .store) (p .text then c)
