@@ -1,5 +1,5 @@
--- Laws of appending to a buffer, also where it ends on the way: nothing, one text and then another, and the buffer's
--- length.
+-- Laws of appending to a buffer, also where it ends on the way: nothing, one text and then another, the buffer's
+-- length, and how long a text can be.
 use Prim.Native.Nat.{ℕ, _+_, _-_, _≤_, _<_}
 use mathlib.Core.Path.{_≡_, sym, ap, _∙_}
 use mathlib.Core.List.{List, [], _++_, append-assoc, append-nil}
@@ -59,15 +59,22 @@ module _ (b : List ℕ) (at : ℕ) (text : List ℕ) where
           next = omega (arith, p .next);
         }
 
-    pub partly-all : fitting b at text ≡ n → Appends b at text m r
-    partly-all e = record { buffer = rw e (p .buffer); next = rw e (p .next) }
+    pub partly-all : fitting b at text ≡ n → Appends (length text) b at text m r
+    partly-all e = record { short = omega arith; buffer = rw e (p .buffer); next = rw e (p .next) }
 
-pub appended-length : {b a text : List ℕ} {at r : ℕ} → Appends b at text a r → length a ≡ length b
-unfolding fitting
-appended-length {b} {text = text} {at} p =
-    rw (p .buffer) (paste-length b at text (fitting b at text) (omega arith) (omega arith))
+module _ {most : ℕ} {b a text : List ℕ} {at r : ℕ} (p : Appends most b at text a r) where
+  pub appended-length : length a ≡ length b
+  unfolding fitting
+  appended-length = rw (p .buffer) (paste-length b at text (fitting b at text) (omega arith) (omega arith))
 
-pub nothing : (b : List ℕ) (at : ℕ) → Appends b at [] b at
+  -- a text that is known to have at most n bytes
+  pub of-length : {n : ℕ} → length text ≤ n → Appends n b at text a r
+  of-length l = record { short = l; buffer = p .buffer; next = p .next }
+
+  pub at-most : {n : ℕ} → most ≤ n → Appends n b at text a r
+  at-most l = of-length (omega (arith, p .short))
+
+pub nothing : (b : List ℕ) (at : ℕ) → Appends 0 b at [] b at
 unfolding fitting
 nothing b at = partly-all b at [] (partly-none b at []) (omega arith)
 
@@ -137,11 +144,12 @@ module _ (b : List ℕ) (at : ℕ) (xs ys m : List ℕ) (r : ℕ) (same : length
 
 -- one text, and right after it another
 infixl 20 _then_
-pub _then_ : {b m a : List ℕ} {at r s : ℕ} {xs ys : List ℕ} → Appends b at xs m r → Appends m r ys a s
-    → Appends b at (xs ++ ys) a s
+pub _then_ : {k l : ℕ} {b m a : List ℕ} {at r s : ℕ} {xs ys : List ℕ} → Appends k b at xs m r → Appends l m r ys a s
+    → Appends (k + l) b at (xs ++ ys) a s
 _then_ {b} {m} {a} {at} {r} {s} {xs} {ys} p q =
     let same : length m ≡ length b = appended-length p in
     record {
+      short = simp length-append (omega (arith, p .short, q .short));
       buffer = q .buffer ∙ paste-both b at xs ys m r same (p .next) (p .buffer);
       next = omega (arith, p .next, q .next, fitting-both b at xs ys m r same (p .next));
     }

@@ -1,5 +1,5 @@
 -- What a function that writes text into a lent buffer promises, for any buffer and any position in it.
-use Prim.Native.Nat.{ℕ, _+_, _-_, min}
+use Prim.Native.Nat.{ℕ, _+_, _-_, _≤_, min}
 use mathlib.Core.Path.{_≡_}
 use mathlib.Core.List.{List}
 use lib.ListN.{length}
@@ -10,7 +10,8 @@ unfoldable pub fitting : List ℕ → ℕ → List ℕ → ℕ
 fitting buffer at text = min (length text) (length buffer - at)
 
 -- The buffer after holds what fits of the text from the position on, and is otherwise as before; r is the position
--- after what was written.
-pub record Appends (before : List ℕ) (at : ℕ) (text after : List ℕ) (r : ℕ) : Type 0 where
+-- after what was written. The text has at most so many bytes: where that many fit, it is whole.
+pub record Appends (most : ℕ) (before : List ℕ) (at : ℕ) (text after : List ℕ) (r : ℕ) : Type 0 where
+  pub short : length text ≤ most
   pub buffer : after ≡ paste before at text (fitting before at text)
   pub next : r ≡ at + fitting before at text

@@ -5,6 +5,7 @@ use model::Entry;
 use model::Outcome;
 use model::Refusal;
 use rules::channel::entry_at;
+ghost use Prim.Native.Nat.{_+_, _*_};
 ghost use mathlib.Core.Path.{_≡_};
 ghost use mathlib.Core.List.{[], _∷_, _++_};
 ghost use lib.ListN.{length};
@@ -12,12 +13,15 @@ ghost use Rattle.model.specs.Channel.{entries, bodies};
 ghost use Rattle.model.specs.Outcome.{refusalNumber, saidBy};
 ghost use Rattle.model.specs.Outcome as says;
 ghost use Rattle.report.specs.Appends.{Appends};
+ghost use Rattle.report.specs.Bounds.{numberBytes, valueBytes, saidBytes, lineBytes, namedBytes};
+ghost use Rattle.report.specs.Bounds.{planRefusedBytes, processBytes, channelBytes, cellBytes};
 ghost use Rattle.report.specs.Text.{chars, decimal, values, named, saidText, saidLine};
 ghost use Rattle.report.specs.Text.{planRefusedText, processText, channelText, cellText};
 
 // A text.
 pub fn bytes(out: &mut [u8], at: usize, text: &[u8]) -> usize
-    ensures { λ r. ⌜ Appends (now (out .entry)) at (now (text .entry)) (now (out .exit)) r ⌝ }
+    ensures { λ r. ⌜ Appends (length (now (text .entry))) (now (out .entry)) at
+        (now (text .entry)) (now (out .exit)) r ⌝ }
 {
     let mut next = at;
     let mut i = 0;
@@ -31,7 +35,7 @@ pub fn bytes(out: &mut [u8], at: usize, text: &[u8]) -> usize
 
 // A number in decimal.
 pub fn decimal(out: &mut [u8], at: usize, n: u32) -> usize
-    ensures { λ r. ⌜ Appends (now (out .entry)) at (decimal n) (now (out .exit)) r ⌝ }
+    ensures { λ r. ⌜ Appends numberBytes (now (out .entry)) at (decimal n) (now (out .exit)) r ⌝ }
 {
     let mut next = at;
     if n >= 10 {
@@ -43,7 +47,7 @@ pub fn decimal(out: &mut [u8], at: usize, n: u32) -> usize
 
 // A space and a number.
 fn value(out: &mut [u8], at: usize, n: u32) -> usize
-    ensures { λ r. ⌜ Appends (now (out .entry)) at (values (n ∷ [])) (now (out .exit)) r ⌝ }
+    ensures { λ r. ⌜ Appends valueBytes (now (out .entry)) at (values (n ∷ [])) (now (out .exit)) r ⌝ }
 {
     let next = bytes(out, at, b" ");
     decimal(out, next, n)
@@ -51,7 +55,8 @@ fn value(out: &mut [u8], at: usize, n: u32) -> usize
 
 // A line's last number, and the line's end.
 fn last(out: &mut [u8], at: usize, n: u32) -> usize
-    ensures { λ r. ⌜ Appends (now (out .entry)) at (values (n ∷ []) ++ chars "\n") (now (out .exit)) r ⌝ }
+    ensures { λ r. ⌜ Appends (valueBytes + 1) (now (out .entry)) at
+        (values (n ∷ []) ++ chars "\n") (now (out .exit)) r ⌝ }
 {
     let next = value(out, at, n);
     bytes(out, next, b"\n")
@@ -59,7 +64,8 @@ fn last(out: &mut [u8], at: usize, n: u32) -> usize
 
 // A line's number, and a space.
 fn numbered(out: &mut [u8], at: usize, number: u32) -> usize
-    ensures { λ r. ⌜ Appends (now (out .entry)) at (decimal number ++ chars " ") (now (out .exit)) r ⌝ }
+    ensures { λ r. ⌜ Appends (numberBytes + 1) (now (out .entry)) at
+        (decimal number ++ chars " ") (now (out .exit)) r ⌝ }
 {
     let next = decimal(out, at, number);
     bytes(out, next, b" ")
@@ -67,7 +73,8 @@ fn numbered(out: &mut [u8], at: usize, number: u32) -> usize
 
 // A line of a name and two numbers.
 fn pair(out: &mut [u8], at: usize, name: &[u8], a: u32, b: u32) -> usize
-    ensures { λ r. ⌜ Appends (now (out .entry)) at (named (now (name .entry)) (a ∷ b ∷ [])) (now (out .exit)) r ⌝ }
+    ensures { λ r. ⌜ Appends (namedBytes (length (now (name .entry))) 2) (now (out .entry)) at
+        (named (now (name .entry)) (a ∷ b ∷ [])) (now (out .exit)) r ⌝ }
 {
     let named = bytes(out, at, name);
     let next = value(out, named, a);
@@ -100,7 +107,7 @@ pub fn number(r: Refusal) -> u8
 
 // A step's outcome, with its value if it has one.
 fn said(out: &mut [u8], at: usize, outcome: Outcome) -> usize
-    ensures { λ r. ⌜ Appends (now (out .entry)) at (saidText (saidBy outcome)) (now (out .exit)) r ⌝ }
+    ensures { λ r. ⌜ Appends saidBytes (now (out .entry)) at (saidText (saidBy outcome)) (now (out .exit)) r ⌝ }
 {
     match outcome {
         Outcome::Done => bytes(out, at, b"done"),
@@ -119,7 +126,8 @@ fn said(out: &mut [u8], at: usize, outcome: Outcome) -> usize
 
 // A step's line.
 pub fn outcome_line(out: &mut [u8], at: usize, number: u32, outcome: Outcome, made: u32) -> usize
-    ensures { λ r. ⌜ Appends (now (out .entry)) at (saidLine number (saidBy outcome) made) (now (out .exit)) r ⌝ }
+    ensures { λ r. ⌜ Appends lineBytes (now (out .entry)) at
+        (saidLine number (saidBy outcome) made) (now (out .exit)) r ⌝ }
 {
     let next = numbered(out, at, number);
     let told = said(out, next, outcome);
@@ -128,7 +136,8 @@ pub fn outcome_line(out: &mut [u8], at: usize, number: u32, outcome: Outcome, ma
 
 // A recover's line: it makes no writes.
 pub fn recover_line(out: &mut [u8], at: usize, number: u32, line: u32) -> usize
-    ensures { λ r. ⌜ Appends (now (out .entry)) at (saidLine number (says.line line) 0) (now (out .exit)) r ⌝ }
+    ensures { λ r. ⌜ Appends lineBytes (now (out .entry)) at
+        (saidLine number (says.line line) 0) (now (out .exit)) r ⌝ }
 {
     let next = numbered(out, at, number);
     let named = bytes(out, next, b"line");
@@ -138,7 +147,8 @@ pub fn recover_line(out: &mut [u8], at: usize, number: u32, line: u32) -> usize
 
 // The line for a plan that is refused.
 pub fn plan_refused(out: &mut [u8], at: usize, r: Refusal) -> usize
-    ensures { λ n. ⌜ Appends (now (out .entry)) at (planRefusedText (refusalNumber r)) (now (out .exit)) n ⌝ }
+    ensures { λ n. ⌜ Appends planRefusedBytes (now (out .entry)) at
+        (planRefusedText (refusalNumber r)) (now (out .exit)) n ⌝ }
 {
     let next = bytes(out, at, b"plan refused");
     last(out, next, number(r) as u32)
@@ -146,14 +156,14 @@ pub fn plan_refused(out: &mut [u8], at: usize, r: Refusal) -> usize
 
 // The line of a process (board) with its word.
 pub fn process_line(out: &mut [u8], at: usize, p: u32, word: u32) -> usize
-    ensures { λ r. ⌜ Appends (now (out .entry)) at (processText p word) (now (out .exit)) r ⌝ }
+    ensures { λ r. ⌜ Appends processBytes (now (out .entry)) at (processText p word) (now (out .exit)) r ⌝ }
 {
     pair(out, at, b"board", p, word)
 }
 
 // The line of a store's cell with its value.
 pub fn cell_line(out: &mut [u8], at: usize, i: u32, v: u32) -> usize
-    ensures { λ r. ⌜ Appends (now (out .entry)) at (cellText i v) (now (out .exit)) r ⌝ }
+    ensures { λ r. ⌜ Appends cellBytes (now (out .entry)) at (cellText i v) (now (out .exit)) r ⌝ }
 {
     pair(out, at, b"cell", i, v)
 }
@@ -176,7 +186,8 @@ fn messages(c: Channel) -> u32
 
 // The bodies of a channel's messages, each after a space.
 fn bodies(out: &mut [u8], at: usize, c: Channel) -> usize
-    ensures { λ r. ⌜ Appends (now (out .entry)) at (values (bodies (entries c))) (now (out .exit)) r ⌝ }
+    ensures { λ r. ⌜ Appends (c .count * valueBytes) (now (out .entry)) at
+        (values (bodies (entries c))) (now (out .exit)) r ⌝ }
 {
     let mut next = at;
     let mut i: u8 = 0;
@@ -192,7 +203,8 @@ fn bodies(out: &mut [u8], at: usize, c: Channel) -> usize
 
 // The line of a channel (wire) with its messages: their number, and their bodies.
 pub fn channel_line(out: &mut [u8], at: usize, c: u32, channel: Channel) -> usize
-    ensures { λ r. ⌜ Appends (now (out .entry)) at (channelText c (bodies (entries channel))) (now (out .exit)) r ⌝ }
+    ensures { λ r. ⌜ Appends channelBytes (now (out .entry)) at
+        (channelText c (bodies (entries channel))) (now (out .exit)) r ⌝ }
 {
     let named = bytes(out, at, b"wire");
     let next = value(out, named, c);

@@ -1,6 +1,6 @@
 -- Laws of a session's opening and of the whole of it: the plan is refused, or initialize is ready, the requests are
 -- served, and the last lines printed.
-use Prim.Native.Nat.{ℕ, _≤_}
+use Prim.Native.Nat.{ℕ, _+_, _*_, _≤_}
 use mathlib.Core.Path.{_≡_, sym, _∙_}
 use mathlib.Core.List.{List}
 use mathlib.Core.Option.{none, some}
@@ -12,7 +12,7 @@ use Rattle.model.specs.declared.Topology.{Topology}
 use Rattle.model.specs.Notation.{orElse}
 use Rattle.model.specs.Outcome.{startRefusal}
 use Rattle.model.specs.Check.{firstRefusal}
-use Rattle.model.specs.Topology.{topologyRefusal}
+use Rattle.model.specs.Topology.{processLimit, channelLimit, topologyRefusal}
 use Rattle.model.specs.Layout.{storeCells}
 use Rattle.model.specs.State.{GlobalState}
 use Rattle.model.specs.Start.{initializeRefusal, initialize}
@@ -23,10 +23,11 @@ use Rattle.model.proofs.laws.Calls.{initialize-refusal, refused-leaves}
 use Rattle.model.proofs.laws.TopologyLaws.{SizesFit}
 use Rattle.engine.specs.Starts.{Starts}
 use Rattle.report.specs.Appends.{Appends}
+use Rattle.report.specs.Bounds.{planRefusedBytes, processBytes, channelBytes, cellBytes}
 use Rattle.report.specs.Text.{planRefusedText, outputText}
-use Rattle.report.proofs.Appending.{_then_}
+use Rattle.report.proofs.Appending.{_then_, at-most}
 use Rattle.session.specs.Drill.{startStore, changedText, drillText}
-use Rattle.session.specs.Output.{processesText, channelsText, MayRun, Plays}
+use Rattle.session.specs.Output.{playedBytes, processesText, channelsText, MayRun, Plays}
 use Rattle.session.specs.Serving.{Prints}
 use Rattle.session.proofs.Plans.{whole}
 use Rattle.session.proofs.Lines.{report-text}
@@ -53,22 +54,23 @@ module _ {bytes store : List ℕ} (may : MayRun bytes store) where
 -- the whole of a session, by its parts
 module _ (source : BudgetSource) (bytes store : List ℕ) where
   pub plays-refused : {r : ℕ} {out a left : List ℕ} {q : ℕ} → planRefusal bytes ≡ some r → left ≡ store
-      → Appends out 0 (planRefusedText r) a q → Plays (playedOf (planRefusal bytes) source store bytes) out a q left
+      → Appends planRefusedBytes out 0 (planRefusedText r) a q
+      → Plays (playedOf (planRefusal bytes) source store bytes) out a q left
   unfolding outputText playedOf
-  plays-refused e s t = rw e (record { text = t; store = s })
+  plays-refused e s t = rw e (record { text = at-most t (omega arith); store = s })
 
   module _ {T : Topology} {s : GlobalState} {started records : List ℕ} (plan : T ≡ planOf bytes)
       (es : s ≡ initialize T store .state) (eb : started ≡ initialize T store .store)
-      (er : records ≡ drop (planLength bytes) bytes) where
+      (er : records ≡ drop (planLength bytes) bytes) (few : length records ≤ inputBytes) where
     all-requests : sessionOf source (planOf bytes) store (drop (planLength bytes) bytes)
         ≡ sessionFrom source T 1 s started records
     unfolding sessionOf
     all-requests = rw (es, eb, er, plan)
 
     pub plays-through : {last : GlobalState} {out left m m′ a : List ℕ} {r r′ q : ℕ} → planRefusal bytes ≡ none
-        → Prints (sessionFrom source T 1 s started records) out 0 m r last left
-        → Appends m r (processesText (T .processes) (last .word)) m′ r′
-        → Appends m′ r′ (channelsText (T .channels) (last .channel)) a q
+        → Prints (length records) (sessionFrom source T 1 s started records) out 0 m r last left
+        → Appends (processLimit * processBytes) m r (processesText (T .processes) (last .word)) m′ r′
+        → Appends (channelLimit * channelBytes) m′ r′ (channelsText (T .channels) (last .channel)) a q
         → Plays (playedOf (planRefusal bytes) source store bytes) out a q left
     unfolding playedOf
     plays-through e p lines more =
@@ -76,7 +78,7 @@ module _ (source : BudgetSource) (bytes store : List ℕ) where
         (record {
           text =
               rw (report-text T (sessionFrom source T 1 s started records), ← p .state)
-              (p .text then lines then more);
+              (at-most (p .text then lines then more) (omega arith));
           store = p .store;
         })
 
@@ -96,7 +98,7 @@ plays source store input e p = rw (← e) p
 
 -- `drill` plays on its starting store, and prints which cells differ from it
 pub drill-played : {store out m a left : List ℕ} {r q : ℕ} (input : List ℕ) → store ≡ startStore
-    → Plays (played given store input) out m r left → Appends m r (changedText left) a q
-    → Appends out 0 (drillText input) a q
+    → Plays (played given store input) out m r left → Appends (storeCells * cellBytes) m r (changedText left) a q
+    → Appends (playedBytes + storeCells * cellBytes) out 0 (drillText input) a q
 unfolding drillText
 drill-played input e p c = rw (← e, ← p .store) (p .text then c)

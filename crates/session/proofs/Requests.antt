@@ -1,5 +1,6 @@
--- Laws of reading a request: what the answer to a reading says of it, and the bytes after it, which are fewer.
-use Prim.Native.Nat.{ℕ, _<_}
+-- Laws of reading a request: what the answer to a reading says of it, and the bytes after it, which are at least two
+-- fewer.
+use Prim.Native.Nat.{ℕ, _+_, _≤_}
 use mathlib.Core.Path.{_≡_, refl, ap, _∙_}
 use mathlib.Core.List.{List, [], _++_, append-assoc}
 use mathlib.Core.Option.{none, some}
@@ -67,13 +68,13 @@ module _ (source : BudgetSource) (bytes : List ℕ) where
       let read = a-request bytes (readRequest source bytes) e in
       read ∙ rw (rest, after-request _ _ read)
 
--- the bytes after a request: what is read comes before them, and is not nothing
+-- the bytes after a request: what is read comes before them, and is at least a bit map and a kind
 pub record After (bytes after : List ℕ) : Type 0 where
   pub read : List ℕ
   pub split : bytes ≡ read ++ after
-  pub some : 0 < length read
+  pub some : 2 ≤ length read
 
-pub fewer : {bytes after : List ℕ} → After bytes after → length after < length bytes
+pub fewer : {bytes after : List ℕ} → After bytes after → 2 + length after ≤ length bytes
 fewer {after} a = omega (arith, a .some, ap length (a .split) ∙ length-append (a .read) after)
 
 pub bytes-after : {bytes after : List ℕ} → After bytes after → AreBytes bytes → AreBytes after

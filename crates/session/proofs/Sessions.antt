@@ -15,8 +15,9 @@ use Rattle.model.specs.State.{GlobalState, view}
 use Rattle.model.specs.Program.{BudgetSource, Request, Served, Session, readRequest, readingThen, readAll, serve}
 use Rattle.model.specs.Program.{lineThen, brokenLine, session, sessionFrom}
 use Rattle.report.specs.Appends.{Appends}
+use Rattle.report.specs.Bounds.{lineBytes}
 use Rattle.report.specs.Text.{saidLine, linesText}
-use Rattle.report.proofs.Appending.{nothing, _then_}
+use Rattle.report.proofs.Appending.{nothing, _then_, at-most}
 use Rattle.session.specs.declared.serve.Turn.{Turn}
 use Rattle.session.specs.Serving.{served, Serves, Prints}
 use Rattle.session.proofs.Requests.{request-after, fewer, bytes-after}
@@ -71,40 +72,45 @@ module _ (source : BudgetSource) (T : Topology) (n : ℕ) (s : GlobalState) (sto
       )
 
 -- What the rest of a session prints at this place is what all of it prints, from where it began.
-abbrev pub Leads : Session → List ℕ → ℕ → Session → List ℕ → ℕ → Type 0
-Leads here out at all out₀ at₀ =
-    (after : List ℕ) (r : ℕ) (s : GlobalState) (left : List ℕ) → Prints here out at after r s left
-    → Prints all out₀ at₀ after r s left
+abbrev pub Leads : ℕ → Session → List ℕ → ℕ → ℕ → Session → List ℕ → ℕ → Type 0
+Leads n here out at n₀ all out₀ at₀ =
+    (after : List ℕ) (r : ℕ) (s : GlobalState) (left : List ℕ) → Prints n here out at after r s left
+    → Prints n₀ all out₀ at₀ after r s left
 
-module _ (source : BudgetSource) (T : Topology) (turn : Turn) (store bytes : List ℕ) {out : List ℕ} {all : Session}
-    {out₀ : List ℕ} {at₀ : ℕ}
+module _ (source : BudgetSource) (T : Topology) (turn : Turn) (store bytes : List ℕ) {out : List ℕ} {n₀ : ℕ}
+    {all : Session} {out₀ : List ℕ} {at₀ : ℕ}
     (leads :
-    Leads (sessionFrom source T (turn .number) (view (turn .state)) store bytes) out (turn .at) all out₀ at₀) where
+    Leads (length bytes) (sessionFrom source T (turn .number) (view (turn .state)) store bytes) out (turn .at)
+    n₀ all out₀ at₀) where
   abbrev n : ℕ
   n = turn .number
 
   abbrev s : GlobalState
   s = view (turn .state)
 
-  pub leads-to-end : length bytes ≤ 0 → Prints all out₀ at₀ out (turn .at) s store
+  pub leads-to-end : length bytes ≤ 0 → Prints n₀ all out₀ at₀ out (turn .at) s store
   unfolding linesText
   leads-to-end l =
       leads out (turn .at) s store
-      (rw (ended source T n s store bytes l) (record { text = nothing out (turn .at); state = refl; store = refl }))
+      (rw (ended source T n s store bytes l)
+      (record { text = at-most (nothing out (turn .at)) (omega arith); state = refl; store = refl }))
 
   pub leads-to-break : {after : List ℕ} {r : ℕ} → 0 < length bytes → readRequest source bytes ≡ none
-      → Appends out (turn .at) (saidLine n (refused 7) 0) after r → Prints all out₀ at₀ after r s store
+      → Appends lineBytes out (turn .at) (saidLine n (refused 7) 0) after r → Prints n₀ all out₀ at₀ after r s store
   unfolding linesText brokenLine
   leads-to-break {after} {r} l e t =
       leads after r s store
-      (rw (broken source T n s store bytes l e) (record { text = rw append-nil t; state = refl; store = refl }))
+      (rw (broken source T n s store bytes l e)
+      (record { text = rw append-nil (at-most t (omega arith)); state = refl; store = refl }))
 
   pub leads-on : {out′ : List ℕ} {next : Turn} {store′ : List ℕ} (q : Request) (after : List ℕ) → AreBytes bytes
       → readRequest source bytes ≡ some (q, after)
       → Serves turn (served T turn store (q .budget) (q .content)) out out′ next store′
-      → Leads (sessionFrom source T (next .number) (view (next .state)) store′ after) out′ (next .at) all out₀ at₀
+      → Leads (length after) (sessionFrom source T (next .number) (view (next .state)) store′ after) out′ (next .at)
+      n₀ all out₀ at₀
   unfolding linesText lineThen
   leads-on q after h e x a r u left p =
+      let shorter = fewer (request-after source bytes h q after e) in
       leads a r u left
       (rw (more source T n s store bytes q after h e, ← x .number, ← x .state, ← x .store)
-      (record { text = x .text then p .text; state = p .state; store = p .store }))
+      (record { text = at-most (x .text then p .text) (omega arith); state = p .state; store = p .store }))

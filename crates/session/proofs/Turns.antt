@@ -16,6 +16,7 @@ use Rattle.model.specs.Program.{serve, ofAnswer, ofStartup}
 use Rattle.engine.specs.Answers.{Answers}
 use Rattle.engine.specs.Starts.{Starts}
 use Rattle.report.specs.Appends.{Appends}
+use Rattle.report.specs.Bounds.{lineBytes}
 use Rattle.report.specs.Text.{saidLine}
 use Rattle.session.specs.declared.serve.Turn.{Turn}
 use Rattle.session.specs.Serving.{served, Serves}
@@ -26,7 +27,7 @@ next turn at s = record { number = turn .number + 1; at = at; state = s }
 module _ (T : Topology) (turn : Turn) {before after : List ℕ} {r : ℕ} where
   pub step-served : (x : Step) (store : List ℕ) (budget : ℕ) {a : Answer} {left : List ℕ}
       → Answers (turn .state) x store budget a left
-      → Appends before (turn .at) (saidLine (turn .number) (saidBy (a .outcome)) (a .made)) after r
+      → Appends lineBytes before (turn .at) (saidLine (turn .number) (saidBy (a .outcome)) (a .made)) after r
       → Serves turn (served T turn store budget (Call x)) before after (next turn r (a .state)) left
   unfolding serve ofAnswer
   step-served x store budget m t =
@@ -34,7 +35,7 @@ module _ (T : Topology) (turn : Turn) {before after : List ℕ} {r : ℕ} where
 
   module _ (store : List ℕ) (budget : ℕ) {x : Started} (s : Starts (recover T store) x store) where
     pub recover-served : startRefusal (x .start) ≡ none
-        → Appends before (turn .at) (saidLine (turn .number) (line (x .state .round .line)) 0) after r
+        → Appends lineBytes before (turn .at) (saidLine (turn .number) (line (x .state .round .line)) 0) after r
         → Serves turn (served T turn store budget Recover) before after (next turn r (x .state)) store
     unfolding serve ofStartup lineOr recoverSaid stateOr view
     recover-served e t =
@@ -42,7 +43,7 @@ module _ (T : Topology) (turn : Turn) {before after : List ℕ} {r : ℕ} where
         (record { text = rw (← s .state) t; number = refl; state = s .state; store = s .store })
 
     pub recover-refused : {n : ℕ} → startRefusal (x .start) ≡ some n
-        → Appends before (turn .at) (saidLine (turn .number) (refused n) 0) after r
+        → Appends lineBytes before (turn .at) (saidLine (turn .number) (refused n) 0) after r
         → Serves turn (served T turn store budget Recover) before after (next turn r (turn .state)) store
     unfolding serve ofStartup lineOr recoverSaid stateOr
     recover-refused e t =

@@ -1,27 +1,34 @@
 -- The whole output of `head`, as bytes, and what a program of its kind prints on any store.
-use Prim.Native.Nat.{ℕ, _≤_}
+use Prim.Native.Nat.{ℕ, _+_, _*_, _/_, _≤_}
 use mathlib.Core.Path.{_≡_}
 use mathlib.Core.List.{List}
 use mathlib.Core.Option.{none}
-use lib.ListN.{length}
+use lib.ListN.{length, take, drop}
 use Rattle.model.specs.declared.Entry.{Entry}
 use Rattle.model.specs.Notation.{concatBelow}
+use Rattle.model.specs.Topology.{processLimit, channelLimit}
 use Rattle.model.specs.Channel.{bodies}
 use Rattle.model.specs.Layout.{storeCells}
 use Rattle.model.specs.Program.{Played, inputBytes, shapeRefusal, head}
 use Rattle.report.specs.Appends.{Appends}
+use Rattle.report.specs.Bounds.{lineBytes, processBytes, channelBytes, cellBytes}
 use Rattle.report.specs.Text.{processText, channelText, outputText}
 
 unfoldable pub headText : List ℕ → List ℕ
 headText input = outputText (head input)
 
--- The longest output there can be. `head`: a record has at least 2 bytes, so there are at most 32,767 lines, of at most
--- 24 bytes each ("32767 took 4294967295 2"); 16 processes, of at most 20 bytes each ("board 15 4294967295"); 64
--- channels, of at most 98 ("wire 63 8" and 8 bodies). `drill`: a record and its budget have at least 6 bytes, so there
--- are at most 10,923 such lines, the processes and channels, and 3,265 cells, of at most 21 bytes each
--- ("cell 3264 4294967295"), which is less.
+-- No output is longer than this. A request has at least 2 bytes, and where the bytes break off there is at least 1: so
+-- there is half a line for each byte, and half a line more.
+abbrev pub requestsBytes : ℕ → ℕ
+requestsBytes bytes = lineBytes / 2 * (bytes + 1)
+
+-- the requests, the processes and the channels
+abbrev pub playedBytes : ℕ
+playedBytes = requestsBytes inputBytes + processLimit * processBytes + channelLimit * channelBytes
+
+-- and `drill`'s cells: 1,515,054 bytes
 abbrev pub outputBytes : ℕ
-outputBytes = 793000
+outputBytes = playedBytes + storeCells * cellBytes
 
 -- the lines of the first n processes with these words, and of the first n channels with these entries
 abbrev pub processesText : ℕ → (ℕ → ℕ) → List ℕ
@@ -38,5 +45,11 @@ pub record MayRun (bytes store : List ℕ) : Type 0 where
 
 -- The output is in the buffer from its start on, and the store is left so.
 pub record Plays (x : Played) (before after : List ℕ) (r : ℕ) (left : List ℕ) : Type 0 where
-  pub text : Appends before 0 (outputText (x .output)) after r
+  pub text : Appends playedBytes before 0 (outputText (x .output)) after r
   pub store : left ≡ x .store
+
+-- The first r bytes of the buffer are the whole text, and the others are as before.
+pub record WholeText (whole before after : List ℕ) (r : ℕ) : Type 0 where
+  pub count : r ≡ length whole
+  pub text : take r after ≡ whole
+  pub rest : drop r after ≡ drop r before

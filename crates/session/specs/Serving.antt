@@ -7,8 +7,10 @@ use Rattle.model.specs.declared.Topology.{Topology}
 use Rattle.model.specs.State.{GlobalState, view}
 use Rattle.model.specs.Program.{Served, Session, serve}
 use Rattle.report.specs.Appends.{Appends}
+use Rattle.report.specs.Bounds.{lineBytes}
 use Rattle.report.specs.Text.{lineText, linesText}
 use Rattle.session.specs.declared.serve.Turn.{Turn}
+use Rattle.session.specs.Output.{requestsBytes}
 
 -- what is said of a record in this turn
 abbrev pub served : Topology → Turn → List ℕ → ℕ → Record → Served
@@ -16,15 +18,15 @@ served T turn store budget r = serve T (view (turn .state)) store budget r
 
 -- The line of the request that was served is appended to the buffer, the store is left so, and this turn comes next.
 pub record Serves (turn : Turn) (x : Served) (before after : List ℕ) (next : Turn) (left : List ℕ) : Type 0 where
-  pub text : Appends before (turn .at) (lineText (record { number = turn .number; said = x .said; made = x .made }))
-      after (next .at)
+  pub text : Appends lineBytes before (turn .at)
+      (lineText (record { number = turn .number; said = x .said; made = x .made })) after (next .at)
   pub number : next .number ≡ turn .number + 1
   pub state : view (next .state) ≡ x .state
   pub store : left ≡ x .store
 
--- The session's lines are appended to the buffer, and its last state and store are these.
-pub record Prints (x : Session) (before : List ℕ) (at : ℕ) (after : List ℕ) (r : ℕ) (s : GlobalState) (left : List ℕ)
-    : Type 0 where
-  pub text : Appends before at (linesText (x .lines)) after r
+-- The lines of a session of so many bytes are appended to the buffer, and its last state and store are these.
+pub record Prints (bytes : ℕ) (x : Session) (before : List ℕ) (at : ℕ) (after : List ℕ) (r : ℕ) (s : GlobalState)
+    (left : List ℕ) : Type 0 where
+  pub text : Appends (requestsBytes bytes) before at (linesText (x .lines)) after r
   pub state : s ≡ x .state
   pub store : left ≡ x .store

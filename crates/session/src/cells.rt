@@ -1,10 +1,11 @@
 // The store's cells in `drill`: what they hold before initialize, and which of them differ from that at the end.
 use rules::layout::STORE_CELLS;
 ghost use mathlib.Core.Path.{_≡_};
-ghost use Prim.Native.Nat.{_<_, _≤_};
+ghost use Prim.Native.Nat.{_*_, _<_, _≤_};
 ghost use lib.ListN.{length};
 ghost use Rattle.model.specs.Layout.{storeCells};
 ghost use Rattle.report.specs.Appends.{Appends};
+ghost use Rattle.report.specs.Bounds.{cellBytes};
 ghost use Rattle.session.specs.Drill.{startCell, startStore, changedText};
 
 // 2,654,435,761 × i modulo 2^32.
@@ -31,7 +32,8 @@ pub fn fill(store: &mut [u32])
 // A line for each cell that differs.
 pub fn changed(store: &[u32], out: &mut [u8], at: usize) -> usize
     requires { ⌜ storeCells ≤ length (now store) ⌝ }
-    ensures { λ r. ⌜ Appends (now (out .entry)) at (changedText (now (store .entry))) (now (out .exit)) r ⌝ }
+    ensures { λ r. ⌜ Appends (storeCells * cellBytes) (now (out .entry)) at
+        (changedText (now (store .entry))) (now (out .exit)) r ⌝ }
 {
     let mut next = at;
     let mut i: usize = 0;

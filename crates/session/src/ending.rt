@@ -2,18 +2,20 @@
 use model::CHANNELS;
 use model::Channel;
 use model::PROCESSES;
-ghost use Prim.Native.Nat.{_≤_};
+ghost use Prim.Native.Nat.{_*_, _≤_};
 ghost use lib.ListN.{getD};
 ghost use Rattle.model.specs.Topology.{processLimit, channelLimit};
 ghost use Rattle.model.specs.Channel.{entries};
 ghost use Rattle.model.specs.State.{emptyChannel};
 ghost use Rattle.report.specs.Appends.{Appends};
+ghost use Rattle.report.specs.Bounds.{processBytes, channelBytes};
 ghost use Rattle.session.specs.Output.{processesText, channelsText};
 
 // The first n processes.
 pub fn processes(n: u8, words: [u32; PROCESSES], out: &mut [u8], at: usize) -> usize
     requires { ⌜ n ≤ processLimit ⌝ }
-    ensures { λ r. ⌜ Appends (now (out .entry)) at (processesText n (λ p. getD words p 0)) (now (out .exit)) r ⌝ }
+    ensures { λ r. ⌜ Appends (processLimit * processBytes) (now (out .entry)) at
+        (processesText n (λ p. getD words p 0)) (now (out .exit)) r ⌝ }
 {
     let mut next = at;
     let mut p: u8 = 0;
@@ -27,7 +29,7 @@ pub fn processes(n: u8, words: [u32; PROCESSES], out: &mut [u8], at: usize) -> u
 // The first n channels.
 pub fn channels(n: u8, channels: [Channel; CHANNELS], out: &mut [u8], at: usize) -> usize
     requires { ⌜ n ≤ channelLimit ⌝ }
-    ensures { λ r. ⌜ Appends (now (out .entry)) at
+    ensures { λ r. ⌜ Appends (channelLimit * channelBytes) (now (out .entry)) at
         (channelsText n (λ c. entries (getD channels c emptyChannel))) (now (out .exit)) r ⌝ }
 {
     let mut next = at;

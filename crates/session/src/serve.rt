@@ -94,7 +94,7 @@ pub fn requests(
     out: &mut [u8],
 ) -> Turn
     requires { ⌜ length (now bytes) ≤ inputBytes ⌝ }
-    ensures { λ r. ⌜ Prints
+    ensures { λ r. ⌜ Prints (length (now (bytes .entry)))
         (sessionFrom (sourceOf source) topology 1 (view state) (now (store .entry)) (now (bytes .entry)))
         (now (out .entry)) 0 (now (out .exit)) (r .at) (view (r .state)) (now (store .exit)) ⌝ }
 {

@@ -8,6 +8,6 @@ pub main-spec : {M : Type 1} → statement M
 main-spec =
     tie.close
     (tie.spec (λ c κs. search needs) (λ c. search needs) (λ c κs. search needs) (λ c κs. search needs)
-    (λ c. search needs) (λ c. search needs) (λ c. search needs) (λ c κs. search needs)
-    (λ c. written-part (c .before .drill .ensures) .within)
-    (λ c. written-part (c .before .before .drill .ensures) .count) (λ c κs. search needs) (λ c. search needs))
+    (λ c. search needs) (λ c. search needs) (λ c κs. search needs)
+    (λ c. written-part (c .drill .ensures) .within)
+    (λ c. written-part (c .before .drill .ensures) .count) (λ c κs. search needs) (λ c. search needs))

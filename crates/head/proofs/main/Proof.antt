@@ -8,6 +8,6 @@ pub main-spec : {M : Type 1} → statement M
 main-spec =
     tie.close
     (tie.spec (λ c κs. search needs) (λ c. search needs) (λ c κs. search needs) (λ c κs. search needs)
-    (λ c. search needs) (λ c. search needs) (λ c. search needs) (λ c κs. search needs)
-    (λ c. written-part (c .before .head .ensures) .within)
-    (λ c. written-part (c .before .before .head .ensures) .count) (λ c κs. search needs) (λ c. search needs))
+    (λ c. search needs) (λ c. search needs) (λ c κs. search needs)
+    (λ c. written-part (c .head .ensures) .within)
+    (λ c. written-part (c .before .head .ensures) .count) (λ c κs. search needs) (λ c. search needs))

@@ -1,6 +1,7 @@
 -- `report::decimal` meets its contract: the digits before the last, if there are any, and then the last. The measure is
 -- the number.
 use borrow.Author.Needs.{needs}
+use native.Mathlib.Omega.{arith}
 use Prim.Native.Nat.{ℕ, _/_, _<_}
 use mathlib.Core.List.{List, []}
 use mathlib.Core.Logic.{⊎-elim}
@@ -8,8 +9,9 @@ use borrow.Fn.Kinds.{In}
 use borrow.Fn.PlainCycle.{Measures, is, falls, and}
 use Rattle.report.specs.Text.{decimal}
 use Rattle.report.specs.Appends.{Appends}
-use Rattle.report.proofs.Appending.{nothing, _then_, appended-length}
-use Rattle.report.proofs.Texts.{decimal-one, decimal-more}
+use Rattle.report.specs.Bounds.{numberBytes}
+use Rattle.report.proofs.Appending.{nothing, _then_, appended-length, of-length}
+use Rattle.report.proofs.Texts.{decimal-one, decimal-more, decimal-length}
 use Rattle.report.proofs.decimal.Reads as reads
 use Rattle.report.proofs.decimal.Kinds as kinds
 use Rattle.report.proofs.bytes.Reads as bytes
@@ -29,17 +31,22 @@ below t = and 1 kinds.ps (falls 1 kinds.ps _<_ μ-decimal t) reads.Pre
 
 returns : (t : ℕ) → lts.Need-returns (below t, reads.Post, bytes.Asked, bytes.Learnt) (given t) reads.Post
 returns t c =
-    let start = c .before .before .before .before .before .before .before .args in
+    let start = c .before .before .before .before .before .before .before in
     let joined = c .before .before .before .before .before .if1 in
     let last = c .before .before .bytes .ensures in
-    let others : List ℕ → Type 0 = λ text. Appends (start .out .now) (start .at) text (joined .out) (joined .next) in
+    let others : ℕ → List ℕ → Type 0 =
+    λ most text. Appends most (start .args .out .now) (start .args .at) text (joined .out) (joined .next) in
+    let n = start .args .n in
+    let few = decimal-length 9 n (omega (arith, start .fits .n)) in
     ⊎-elim
     (λ w.
-    let first : others (decimal (start .n / 10)) = rw (w .5, w .6) (w .2 .ensures) in
-    rw (decimal-more (start .n) (w .0 .taken)) (first then last))
+    let first : others numberBytes (decimal (n / 10)) = rw (w .5, w .6) (w .2 .ensures) in
+    let text = decimal-more n (w .0 .taken) in
+    rw text (of-length (first then last) (rw text at few)))
     (λ w.
-    let first : others [] = rw (w .1, w .2) (nothing (start .out .now) (start .at)) in
-    rw (decimal-one (start .n) (w .0 .left)) (first then last))
+    let first : others 0 [] = rw (w .1, w .2) (nothing (start .args .out .now) (start .args .at)) in
+    let text = decimal-one n (w .0 .left) in
+    rw text (of-length (first then last) (rw text at few)))
     (joined .came)
 
 pub +decimal-spec : {M : Type 1} → statement M

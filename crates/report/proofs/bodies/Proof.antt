@@ -4,14 +4,15 @@ use borrow.Author.Needs.{needs}
 use native.Mathlib.Omega.{arith}
 use mathlib.Core.Path.{_≡_, sym, _∙_}
 use mathlib.Core.Logic.{⊎-elim}
-use Prim.Native.Nat.{ℕ, _-_, _≤_}
+use Prim.Native.Nat.{ℕ, _-_, _*_, _≤_}
 use mathlib.Core.List.{List}
 use Rattle.model.specs.declared.Channel.{Channel}
 use Rattle.model.specs.Notation.{tabulate}
 use Rattle.model.specs.Channel.{entries, bodies}
 use Rattle.report.specs.Text.{values}
 use Rattle.report.specs.Appends.{Appends}
-use Rattle.report.proofs.Appending.{nothing, _then_, appended-length}
+use Rattle.report.specs.Bounds.{valueBytes}
+use Rattle.report.proofs.Appending.{nothing, _then_, appended-length, at-most}
 use Rattle.report.proofs.Texts.{values-append}
 use Rattle.model.proofs.laws.ChannelLaws.{bodiesBelow, message-more, marker-more}
 use Rattle.report.proofs.bodies.Statement.{statement}
@@ -19,7 +20,7 @@ use Rattle.report.proofs.bodies.Tie as tie
 
 record Listed (c : Channel) (i : ℕ) (before : List ℕ) (at : ℕ) (after : List ℕ) (r : ℕ) : Type 0 where
   places : i ≤ c .count
-  text : Appends before at (values (bodiesBelow i c)) after r
+  text : Appends (i * valueBytes) before at (values (bodiesBelow i c)) after r
 
 abbrev Inv-loop : tie.InvT-loop
 Inv-loop out₀ at c next₀ i₀ out next i = Listed c i out₀ at out next
@@ -40,10 +41,11 @@ loop-again c =
     ⊎-elim
     (λ w.
     let more = message-more from (l .i) (sym (w .1 .given .1) ∙ here) in
-    record { places = omega arith; text = rw (more, values-append, w .7, w .8) (l .inv .text then w .4 .ensures) })
+    let text = at-most (l .inv .text then w .4 .ensures) (omega arith) in
+    record { places = omega arith; text = rw (more, values-append, w .7, w .8) text })
     (λ w.
     let same = marker-more from (l .i) (sym (w .1 .given .1) ∙ here) in
-    record { places = omega arith; text = rw (same, w .2, w .3) (l .inv .text) })
+    record { places = omega arith; text = rw (same, w .2, w .3) (at-most (l .inv .text) (omega arith)) })
     (c .match .came)
 
 returns : tie.Need-returns Inv-loop μ-loop

@@ -1,8 +1,10 @@
 -- `report::said` meets its contract, for each outcome.
 use borrow.Author.Needs.{needs}
+use native.Mathlib.Omega.{arith}
 use Rattle.model.specs.Outcome.{saidValues}
 use Rattle.report.specs.Text.{values, saidName, saidText}
-use Rattle.report.proofs.Appending.{_then_}
+use Rattle.report.proofs.Appending.{_then_, at-most, of-length}
+use Rattle.report.proofs.Texts.{decimal-length, values-one}
 use Rattle.report.proofs.said.Statement.{statement}
 use Rattle.report.proofs.said.Tie as tie
 
@@ -10,7 +12,7 @@ done : tie.Need-returns
 unfolding values saidName saidValues saidText
 done c =
     let name = c .before .before in
-    rw (name .before .before .before .enum-told .given .1) (name .bytes .ensures)
+    rw (name .before .before .before .enum-told .given .1) (at-most (name .bytes .ensures) (omega arith))
 
 received : tie.Need-returns-2
 unfolding saidName saidValues saidText
@@ -23,21 +25,23 @@ marker : tie.Need-returns-3
 unfolding values saidName saidValues saidText
 marker c =
     let name = c .before .before in
-    rw (name .before .before .before .enum-told2 .given .1) (name .bytes3 .ensures)
+    rw (name .before .before .before .enum-told2 .given .1) (at-most (name .bytes3 .ensures) (omega arith))
 
 refused : tie.Need-returns-4
 unfolding saidName saidValues saidText
 refused c =
     let number = c .before .before in
     let name = number .before .before .before .before .before in
+    let short = decimal-length 2 (number .before .number .result) (omega (arith, number .before .number .ok)) in
+    let text = name .bytes4 .ensures then number .value2 .ensures in
     rw (name .before .before .before .before .outcome2 .given .1, ← number .before .number .ensures)
-    (name .bytes4 .ensures then number .value2 .ensures)
+    (of-length text (rw values-one (omega arith)))
 
 lost : tie.Need-returns-5
 unfolding values saidName saidValues saidText
 lost c =
     let name = c .before .before in
-    rw (name .before .before .before .enum-told3 .given .1) (name .bytes5 .ensures)
+    rw (name .before .before .before .enum-told3 .given .1) (at-most (name .bytes5 .ensures) (omega arith))
 
 pub said-spec : {M : Type 1} → statement M
 said-spec =

@@ -6,7 +6,8 @@ use Prim.Native.Nat.{_-_}
 use mathlib.Core.Path.{_∙_, sym}
 use mathlib.Core.Logic.{⊎-elim}
 use Rattle.model.specs.Layout.{storeCells}
-use Rattle.report.proofs.Appending.{nothing}
+use Rattle.report.specs.Bounds.{cellBytes}
+use Rattle.report.proofs.Appending.{nothing, at-most}
 use Rattle.session.specs.Drill.{changedLine, changedText}
 use Rattle.session.proofs.Lines.{Appended, none-appended, one-appended, all-appended, kept-length}
 use Rattle.session.proofs.Changes.{same-cell, other-cell}
@@ -14,7 +15,7 @@ use Rattle.session.proofs.cells.changed.Statement.{statement}
 use Rattle.session.proofs.cells.changed.Tie as tie
 
 abbrev Inv-loop : tie.InvT-loop
-Inv-loop store out₀ at next₀ i₀ out next i = Appended storeCells (changedLine store) out₀ at i out next
+Inv-loop store out₀ at next₀ i₀ out next i = Appended cellBytes storeCells (changedLine store) out₀ at i out next
 
 abbrev μ-loop : tie.MeasureT-loop
 μ-loop store out₀ at next₀ i₀ out next i = storeCells - i
@@ -32,7 +33,8 @@ loop-again c =
     rw (w .5, w .6) (one-appended (at .loop .inv) (inside .loop-test .taken) (rw line (w .2 .ensures))))
     (λ w.
     let none = same-cell store (at .loop .i) (w .0 .left ∙ begins) in
-    rw (w .1, w .2) (one-appended (at .loop .inv) (inside .loop-test .taken) (rw none (nothing _ _))))
+    rw (w .1, w .2)
+    (one-appended (at .loop .inv) (inside .loop-test .taken) (rw none (at-most (nothing _ _) (omega arith)))))
     (c .if1 .came)
 
 returns : tie.Need-returns Inv-loop μ-loop

@@ -11,7 +11,9 @@ use Rattle.model.specs.Channel.{entries, bodies}
 use Rattle.model.specs.State.{emptyChannel}
 use Rattle.model.proofs.laws.Functions.{getD-within}
 use Rattle.report.specs.Appends.{Appends}
+use Rattle.report.specs.Bounds.{channelBytes}
 use Rattle.report.specs.Text.{channelText}
+use Rattle.report.proofs.Appending.{at-most}
 use Rattle.session.proofs.Lines.{Appended, none-appended, one-appended, all-appended, kept-length}
 use Rattle.session.proofs.ending.channels.Statement.{statement}
 use Rattle.session.proofs.ending.channels.Tie as tie
@@ -21,13 +23,14 @@ abbrev lineOf : List Channel → Channel → ℕ → List ℕ
 lineOf channels d i = channelText i (bodies (entries (getD channels i d)))
 
 abbrev Inv-loop : tie.InvT-loop
-Inv-loop n out₀ at channels next₀ c₀ out next c = Appended n (lineOf channels emptyChannel) out₀ at c out next
+Inv-loop n out₀ at channels next₀ c₀ out next c =
+    Appended channelBytes n (lineOf channels emptyChannel) out₀ at c out next
 
 abbrev μ-loop : tie.MeasureT-loop
 μ-loop n out₀ at channels next₀ c₀ out next c = n - c
 
 same-line : {b a : List ℕ} {at r : ℕ} (l : List Channel) (i : ℕ) (d : Channel) → i < length l
-    → Appends b at (lineOf l d i) a r → Appends b at (lineOf l emptyChannel i) a r
+    → Appends channelBytes b at (lineOf l d i) a r → Appends channelBytes b at (lineOf l emptyChannel i) a r
 same-line l i d h t = rw (getD-within l i emptyChannel d h) t
 
 loop-again : tie.Need-loop-again Inv-loop μ-loop
@@ -48,4 +51,5 @@ channels-spec =
     (tie.spec Inv-loop μ-loop (λ c. none-appended) (λ c. search needs) (λ c. search needs)
     (λ c. omega (arith, c .before .before .before .pre)) (λ c. search needs) (λ c κs. search needs)
     (λ c. search needs) (λ c. search needs) loop-again (λ c. kept-length (c .before .loop .inv))
-    (λ c. all-appended (c .before .loop .inv) (c .loop-test .left)))
+    (λ c. at-most (all-appended (c .before .loop .inv) (c .loop-test .left))
+    (omega (arith, c .before .before .before .pre))))

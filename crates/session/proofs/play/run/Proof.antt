@@ -1,10 +1,12 @@
 -- `play::run` meets its contract: initialize refuses the plan, or the session runs to its end.
 use borrow.Author.Needs.{needs}
 use native.Mathlib.Omega.{arith}
+use Prim.Native.Nat.{_≤_}
 use mathlib.Core.Path.{ap, _∙_}
-use lib.ListN.{length-drop}
+use lib.ListN.{length, length-drop}
 use Rattle.model.specs.Outcome.{startRefusal}
 use Rattle.model.specs.State.{view}
+use Rattle.model.specs.Program.{inputBytes}
 use Rattle.model.proofs.laws.TopologyLaws.{SizesFit}
 use Rattle.session.proofs.Opening.{plan-sizes, decides, leaves, plays-refused, plays-through}
 use Rattle.session.proofs.play.run.Statement.{statement}
@@ -38,6 +40,9 @@ sizes q =
     let i = initialized (ready (recorded q)) in
     plan-sizes (start i .pre) (planned i .topology .ensures)
 
+few : (r : tie.After-records) → length (r .records .result .now) ≤ inputBytes
+few r = rw (r .records .ensures, length-drop) (omega (arith, start (initialized (ready r)) .pre .taken))
+
 refused : tie.Need-returns
 refused c =
     let line = c .before .before in
@@ -60,20 +65,15 @@ ran c =
     let i = initialized t in
     let plan = planned i .topology .ensures in
     let started = i .initialize .ensures in
-    plays-through _ _ _ plan (started .state) (started .store) (r .records .ensures)
+    plays-through _ _ _ plan (started .state) (started .store) (r .records .ensures) (few r)
     (decides (start i .pre) plan started ∙ ap startRefusal (t .enum-told .given .1))
     (q .requests .ensures) (p .processes .ensures) (last .channels2 .ensures)
-
-few : tie.Need-requests-requires
-few c κs =
-    let r = c .before .before in
-    let s = start (initialized (ready r)) in
-    rw (r .records .ensures, length-drop) (omega (arith, s .pre .taken))
 
 pub run-spec : {M : Type 1} → statement M
 run-spec =
     tie.close
     (tie.spec (λ c κs. search needs) (λ c κs. search needs) (λ c. search needs) (λ c κs. search needs)
-    (λ c. search needs) (λ c. search needs) refused (λ c. search needs) (λ c κs. search needs) few
+    (λ c. search needs) (λ c. search needs) refused (λ c. search needs) (λ c κs. search needs)
+    (λ c κs. few (c .before .before))
     (λ c κs. sizes (served c) .processes) (λ c κs. sizes (served (printed c .before)) .channels) (λ c. search needs)
     (λ c. search needs) ran)

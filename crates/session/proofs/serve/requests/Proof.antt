@@ -25,16 +25,16 @@ from source topology turn store left =
     sessionFrom (sourceOf source) topology (turn .number) (view (turn .state)) store left
 
 -- what holds in a turn
-record InTurn (all here : Session) (store₀ store out₀ out left : List ℕ) (turn : Turn) : Type 0 where
+record InTurn (n₀ : ℕ) (all here : Session) (store₀ store out₀ out left : List ℕ) (turn : Turn) : Type 0 where
   lines : turn .number + length left ≤ inputBytes + 1
   bytes : AreBytes left
   store-length : length store ≡ length store₀
   out-length : length out ≡ length out₀
-  leads : Leads here out (turn .at) all out₀ 0
+  leads : Leads (length left) here out (turn .at) n₀ all out₀ 0
 
 abbrev Inv-loop : tie.InvT-loop
 Inv-loop source topology bytes store₀ out₀ turn₀ left₀ store out turn left =
-    InTurn (from source topology turn₀ store₀ bytes) (from source topology turn store left)
+    InTurn (length bytes) (from source topology turn₀ store₀ bytes) (from source topology turn store left)
     store₀ store out₀ out left turn
 
 abbrev μ-loop : tie.MeasureT-loop
@@ -105,7 +105,7 @@ requests-spec =
     (tie.spec Inv-loop μ-loop loop-holds (λ c κs. search needs) (λ c. search needs) (λ c. search needs)
     (λ c κs. search needs) (λ c κs. search needs)
     (λ c κs. omega (arith, at-loop (c .before .before) .loop .inv .lines))
-    (λ c. fewer (after (c .before .before .before .before .before .before .before))) loop-again
+    (λ c. omega (arith, fewer (after (c .before .before .before .before .before .before .before)))) loop-again
     (λ c. c .before .loop .inv .store-length) (λ c. c .before .loop .inv .out-length) ended
     (λ c. unread (c .before .before) .before .before .loop .inv .store-length)
     (λ c. c .before .before .outcome-line .kept .0 ∙ unread (c .before .before) .before .before .loop .inv .out-length)

@@ -1,0 +1,35 @@
+-- How many bytes the texts have at most. Every number that is printed is below 2^32.
+use Prim.Native.Nat.{ℕ, _+_, _*_}
+
+-- "4294967295"
+abbrev pub numberBytes : ℕ
+numberBytes = 10
+
+-- a space and a number
+abbrev pub valueBytes : ℕ
+valueBytes = 1 + numberBytes
+
+-- "took 4294967295"
+abbrev pub saidBytes : ℕ
+saidBytes = 4 + valueBytes
+
+-- a request's line: its number and a space, what is said of it, the writes made, and the line's end
+abbrev pub lineBytes : ℕ
+lineBytes = numberBytes + 1 + saidBytes + valueBytes + 1
+
+-- a line that opens with a name of so many bytes, and has so many numbers
+abbrev pub namedBytes : ℕ → ℕ → ℕ
+namedBytes name numbers = name + numbers * valueBytes + 1
+
+abbrev pub planRefusedBytes : ℕ
+planRefusedBytes = namedBytes 12 1
+
+abbrev pub processBytes : ℕ
+processBytes = namedBytes 5 2
+
+-- a channel's count is a byte: its number, the count of its messages, and at most 255 bodies
+abbrev pub channelBytes : ℕ
+channelBytes = namedBytes 4 (2 + 255)
+
+abbrev pub cellBytes : ℕ
+cellBytes = namedBytes 4 2
