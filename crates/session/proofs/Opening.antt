@@ -22,7 +22,7 @@ use Rattle.model.specs.Program.{sessionFrom, sessionOf, playedOf, played}
 use Rattle.model.proofs.laws.Lists.{or-nothing}
 use Rattle.model.proofs.laws.Calls.{ready, not-ready}
 use Rattle.model.proofs.laws.TopologyLaws.{SizesFit}
-use Rattle.engine.specs.Starts.{Starts}
+use Rattle.recovery.specs.Starts.{Starts}
 use Rattle.report.specs.Appends.{Appends}
 use Rattle.report.specs.Text.{planRefusedText, outputText}
 use Rattle.report.proofs.Appending.{_then_}

@@ -15,7 +15,7 @@ use Rattle.model.specs.State.{view}
 use Rattle.model.specs.Start.{recover}
 use Rattle.model.specs.Program.{serve, ofAnswer, ofStartup}
 use Rattle.engine.specs.Answers.{Answers}
-use Rattle.engine.specs.Starts.{Starts}
+use Rattle.recovery.specs.Starts.{Starts}
 use Rattle.report.specs.Appends.{Appends}
 use Rattle.report.specs.Text.{outcomeText, recoverText}
 use Rattle.session.specs.declared.serve.Turn.{Turn}
