@@ -158,7 +158,7 @@ fn recovered(ok: bool, t: Topology, cell: usize, value: u32, answer: u64) -> boo
     let mut store = [RUBBISH; STORE_CELLS];
     engine::initialize(plan(2, 2, 0x0110), &mut store);
     store[cell % STORE_CELLS] = value;
-    let started = engine::recover(t, &store);
+    let started = recovery::recover(t, &store);
     let start = started.start;
     start_number(start) == answer && ok
 }
@@ -168,7 +168,7 @@ fn short_start(ok: bool, t: Topology, answer: u64) -> bool {
     let mut store = [RUBBISH; 3264];
     let first = engine::initialize(t, &mut store);
     let kept = untouched(&store);
-    let again = engine::recover(t, &store);
+    let again = recovery::recover(t, &store);
     let one = first.start;
     let two = again.start;
     start_number(one) == answer && start_number(two) == answer && kept && ok
@@ -184,7 +184,7 @@ fn bad_plan(ok: bool, processes: u8, channels: u8, ends: u16, answer: u64) -> bo
 fn last_line(k: u32) -> bool {
     let mut store = [0; STORE_CELLS];
     store[0] = k;
-    let old = engine::recover(plan(1, 0, 0), &store);
+    let old = recovery::recover(plan(1, 0, 0), &store);
     let idle = old.state;
     let begun = engine::step(idle, step(3, 0), &mut store, LAST);
     let physical = begun.state;
@@ -194,7 +194,7 @@ fn last_line(k: u32) -> bool {
     let ready = marked.state;
     let done = engine::step(ready, step(7, 0), &mut store, LAST);
     let last = done.state;
-    let new = engine::recover(plan(1, 0, 0), &store);
+    let new = recovery::recover(plan(1, 0, 0), &store);
     let again = new.state;
     let before = idle.round;
     let during = physical.round;

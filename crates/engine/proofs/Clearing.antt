@@ -6,22 +6,14 @@ use lib.ListN.{length, length-append}
 use native.Mathlib.Omega.{arith}
 use Rattle.model.specs.declared.Topology.{Topology}
 use Rattle.model.specs.Notation.{tabulate, concatBelow}
-use Rattle.model.specs.Layout.{lineCell, processCells, channelCells, processRecord, channelRecord, physicalCell}
+use Rattle.model.specs.Layout.{lineCell, processCells, channelCells, processRecord, physicalCell}
 use Rattle.model.specs.Layout.{messageLog, channelLog, countCell}
 use Rattle.model.specs.Write.{writeAll, clearWrites, commitWrites}
 use Rattle.model.specs.Start.{initializeWrites}
 use Rattle.model.proofs.laws.Lists.{tabulate-length, tabulate-cong}
+use Rattle.model.proofs.store.Addresses.{message-cell, channel-cell}
 use Rattle.engine.specs.Spent.{Spent, zeroWrite, clearProcess}
 use Rattle.engine.proofs.Stores.{spent-then, all-spent}
-
--- a log's count stands a fixed number of cells after that of the log before it
-pub message-cell : (n i : ℕ) → countCell n (messageLog 0) + processCells * i ≡ countCell n (messageLog i)
-unfolding countCell processRecord
-message-cell n i = omega arith
-
-pub channel-cell : (n i : ℕ) → countCell n (channelLog 0) + channelCells * i ≡ countCell n (channelLog i)
-unfolding countCell channelRecord
-channel-cell n i = omega arith
 
 -- 0 into the counts of m logs, from the first one's on: of message logs, and of channel logs
 module _ {st st′ : List ℕ} {b b′ : ℕ} (n m : ℕ) {first : ℕ} where

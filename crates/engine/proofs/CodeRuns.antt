@@ -19,7 +19,7 @@ use Rattle.model.proofs.Trace.{run-append}
 use Rattle.model.proofs.Demand3.{demand-3}
 use Rattle.model.proofs.Reached.{reached}
 use Rattle.engine.specs.Answers.{Answers}
-use Rattle.engine.specs.Starts.{Starts}
+use Rattle.recovery.specs.Starts.{Starts}
 use Rattle.engine.specs.Runs.{Runs, initialized, stepped, recovered, startupOf, Demand3OfCode, CompanionOfCode}
 
 -- the same world, reached by calls of the definitions

@@ -9,5 +9,4 @@ pub mod Aborting
 pub mod Clearing
 pub mod Receptions
 pub mod ReceiveMeets
-pub mod Recovering
 pub mod CodeRuns

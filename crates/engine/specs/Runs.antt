@@ -17,7 +17,7 @@ use Rattle.model.specs.History.{History, newHistory, onStep, onRecover}
 use Rattle.model.specs.Run.{countCommit}
 use Rattle.model.specs.Claim.{Recovered}
 use Rattle.engine.specs.Answers.{Answers}
-use Rattle.engine.specs.Starts.{Starts}
+use Rattle.recovery.specs.Starts.{Starts}
 
 -- A run of the code for the topology T: the state and the store that were returned last, the histories fed with the
 -- code's own outcomes, and how many commits were accepted. Each call is given the state and the store returned last.

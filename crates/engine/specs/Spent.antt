@@ -6,7 +6,7 @@ use mathlib.Core.Bool.{Bool, cond}
 use mathlib.Core.List.{List, [], _∷_}
 use lib.ListN.{length, take}
 use Rattle.model.specs.Notation.{tabulate}
-use Rattle.model.specs.Layout.{cell, entryCell, entriesFrom, physicalCell, messageLog, countCell}
+use Rattle.model.specs.Layout.{entryCell, physicalCell, messageLog, countCell}
 use Rattle.model.specs.Write.{Write, writeAll}
 
 pub record Spent (before : List ℕ) (budget : ℕ) (ws : List Write) (after : List ℕ) (rest : ℕ) : Type 0 where
@@ -40,7 +40,3 @@ appendWrites at count body =
 -- the same, if it is needed
 abbrev pub appendIf : Bool → ℕ → ℕ → ℕ → List Write
 appendIf needed at count body = cond needed (appendWrites at count body) []
-
--- the bodies of the log whose count stands in the cell at
-abbrev pub loggedAt : List ℕ → ℕ → List ℕ
-loggedAt store at = entriesFrom store at (cell store at)

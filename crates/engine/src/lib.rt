@@ -1,4 +1,4 @@
-// Initialize, the eight steps and recover over the types of model, each equal to its definition there.
+// Initialize and the eight steps over the types of model, each equal to its definition there.
 mod abort;
 mod begin;
 mod commit;
@@ -15,4 +15,3 @@ mod store;
 
 pub use dispatch::step;
 pub use start::initialize;
-pub use start::recover;

@@ -21,7 +21,7 @@ use Rattle.model.specs.Program.{sessionFrom, sessionOf, playedOf, played}
 use Rattle.model.proofs.laws.Lists.{or-nothing}
 use Rattle.model.proofs.laws.Calls.{initialize-refusal, refused-leaves}
 use Rattle.model.proofs.laws.TopologyLaws.{SizesFit}
-use Rattle.engine.specs.Starts.{Starts}
+use Rattle.recovery.specs.Starts.{Starts}
 use Rattle.report.specs.Appends.{Appends}
 use Rattle.report.specs.Bounds.{planRefusedBytes, processBytes, channelBytes, cellBytes}
 use Rattle.report.specs.Text.{planRefusedText, outputText}

@@ -14,7 +14,7 @@ use Rattle.model.specs.Outcome.{line, refused, saidBy, startRefusal}
 use Rattle.model.specs.Start.{recover, lineOr, recoverSaid, stateOr}
 use Rattle.model.specs.Program.{serve, ofAnswer, ofStartup}
 use Rattle.engine.specs.Answers.{Answers}
-use Rattle.engine.specs.Starts.{Starts}
+use Rattle.recovery.specs.Starts.{Starts}
 use Rattle.report.specs.Appends.{Appends}
 use Rattle.report.specs.Bounds.{lineBytes}
 use Rattle.report.specs.Text.{saidLine}

@@ -30,7 +30,7 @@ fn recover(topology: Topology, turn: Turn, store: &[u32], out: &mut [u8]) -> Tur
         (now (out .entry)) (now (out .exit)) r (now (store .entry)) ⌝ }
 {
     let number = turn.number;
-    let started = engine::recover(topology, store);
+    let started = recovery::recover(topology, store);
     let start = started.start;
     match start {
         Start::Ready => {

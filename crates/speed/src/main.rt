@@ -188,14 +188,14 @@ fn fill(store: &mut [u32], cells: &[u8]) {
 fn recovers(topology: Topology, times: u32, cells: &[u8]) -> u32 {
     let mut store = [0; STORE_CELLS];
     fill(&mut store, cells);
-    let started = engine::recover(topology, &store);
+    let started = recovery::recover(topology, &store);
     let mut state = started.state;
     let mut sum = 0;
     let mut i: u32 = 0;
     while i < times {
         store[3] = i;
         i += 1;
-        let again = engine::recover(topology, &store);
+        let again = recovery::recover(topology, &store);
         state = again.state;
         let last = state.channels[63];
         sum = fold(fold(sum, state.words[0]), last.bodies[7]);

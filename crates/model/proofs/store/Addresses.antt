@@ -1,12 +1,12 @@
 -- Where the planned things of a store stand: each within its slot, and no two of them in one cell.
-use Prim.Native.Nat.{ℕ, _+_, _<_, _≤_}
+use Prim.Native.Nat.{ℕ, _+_, _*_, _<_, _≤_}
 use mathlib.Core.Path.{_≡_, ap}
 use mathlib.Core.List.{List}
 use lib.ListN.{length}
 use native.Mathlib.Omega.{arith}
 use Rattle.model.specs.declared.Topology.{Topology}
 use Rattle.model.specs.Layout.{lineCell, slotCells, slot, processRecord, channelRecord, physicalCell, Log}
-use Rattle.model.specs.Layout.{messageLog, channelLog, places, countCell, entryCell}
+use Rattle.model.specs.Layout.{processCells, channelCells, messageLog, channelLog, places, countCell, entryCell}
 use Rattle.model.proofs.laws.TopologyLaws.{Planned}
 use Rattle.model.proofs.store.Sizes.{Sized}
 
@@ -22,6 +22,15 @@ pub record Of (n : ℕ) (log : Log) (a : ℕ) : Type 0 where
 
 pub entry-of : (n : ℕ) (log : Log) (i : ℕ) → i < places log → Of n log (entryCell (countCell n log) i)
 entry-of n log i l = omega arith
+
+-- a log's count stands a fixed number of cells after that of the log before it
+pub message-cell : (n i : ℕ) → countCell n (messageLog 0) + processCells * i ≡ countCell n (messageLog i)
+unfolding countCell processRecord
+message-cell n i = omega arith
+
+pub channel-cell : (n i : ℕ) → countCell n (channelLog 0) + channelCells * i ≡ countCell n (channelLog i)
+unfolding countCell channelRecord
+channel-cell n i = omega arith
 
 -- the next line's slot is the other one, and the line cell is in neither
 pub other-within : (k a : ℕ) → Within k a → Within (k + 1) a → ⊥

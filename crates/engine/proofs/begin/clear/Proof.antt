@@ -5,9 +5,9 @@ use borrow.Author.Needs.{needs}
 use denote.Ref.{now}
 use Rattle.model.specs.Layout.{messageLog, channelLog}
 use Rattle.model.proofs.store.Sizes.{Sized}
-use Rattle.model.proofs.store.Addresses.{in-store, count-within}
+use Rattle.model.proofs.store.Addresses.{in-store, count-within, message-cell, channel-cell}
 use Rattle.model.specs.Write.{clearWrites}
-use Rattle.engine.proofs.Clearing.{message-cell, channel-cell, messages-cleared, channels-cleared}
+use Rattle.engine.proofs.Clearing.{messages-cleared, channels-cleared}
 use Rattle.engine.proofs.Stores.{spent-then, spent-length}
 use Rattle.engine.proofs.begin.clear.Statement.{statement}
 use Rattle.engine.proofs.begin.clear.Tie as tie

@@ -5,7 +5,7 @@ use lib.ListN.{length}
 use Rattle.model.specs.Start.{initialize, initializeRefusal}
 use borrow.Author.Needs.{needs}
 use Rattle.model.specs.Outcome.{refusalOf}
-use Rattle.engine.proofs.Recovering.{starts-ready, starts-refused}
+use Rattle.recovery.proofs.Recovering.{starts-ready, starts-refused}
 use Rattle.engine.proofs.start.initialize.Statement.{statement}
 use Rattle.engine.proofs.start.initialize.Tie as tie
 

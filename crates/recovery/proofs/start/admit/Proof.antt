@@ -1,12 +1,12 @@
--- `engine::start::admit` meets its contract: 1 to 5 where they refuse, else 6.
+-- `recovery::start::admit` meets its contract: 1 to 5 where they refuse, else 6.
 use borrow.Author.Needs.{needs}
 use borrow.Author.Tests.{lt-ltb, le-ltb}
 use Rattle.model.specs.Notation.{orElse}
 use Rattle.model.specs.Check.{firstRefusal}
 use Rattle.model.specs.Outcome.{refusalOf}
 use Rattle.model.specs.Start.{initializeRefusal}
-use Rattle.engine.proofs.start.admit.Statement.{statement}
-use Rattle.engine.proofs.start.admit.Tie as tie
+use Rattle.recovery.proofs.start.admit.Statement.{statement}
+use Rattle.recovery.proofs.start.admit.Tie as tie
 
 returns : tie.Need-returns
 unfolding refusalOf initializeRefusal orElse firstRefusal

@@ -8,6 +8,7 @@ use Rattle.model.specs.declared.Entry.{Entry}
 use Rattle.model.specs.declared.Started.{Started}
 use Rattle.model.specs.Outcome.{startRefusal}
 use Rattle.model.specs.Channel.{entries}
+use Rattle.model.specs.Layout.{cell, entriesFrom}
 use Rattle.model.specs.State.{view, emptyChannel}
 use Rattle.model.specs.Start.{Startup}
 
@@ -22,3 +23,7 @@ wordsSeen words = λ p. getD words p 0
 
 abbrev pub channelsSeen : List Channel → ℕ → List Entry
 channelsSeen channels = λ c. entries (getD channels c emptyChannel)
+
+-- the bodies of the log whose count stands in the cell at
+abbrev pub loggedAt : List ℕ → ℕ → List ℕ
+loggedAt store at = entriesFrom store at (cell store at)

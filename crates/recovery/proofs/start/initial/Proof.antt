@@ -1,9 +1,9 @@
--- `engine::start::initial` meets its contract.
+-- `recovery::start::initial` meets its contract.
 use mathlib.Core.Path.{_∙_}
 use borrow.Author.Needs.{needs}
-use Rattle.engine.proofs.Recovering.{initial-state}
-use Rattle.engine.proofs.start.initial.Statement.{statement}
-use Rattle.engine.proofs.start.initial.Tie as tie
+use Rattle.recovery.proofs.Recovering.{initial-state}
+use Rattle.recovery.proofs.start.initial.Statement.{statement}
+use Rattle.recovery.proofs.start.initial.Tie as tie
 
 returns : tie.Need-returns
 returns c =

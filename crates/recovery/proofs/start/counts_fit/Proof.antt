@@ -1,13 +1,13 @@
--- `engine::start::counts_fit` meets its contract: the counts of the message logs, then those of the channel logs.
+-- `recovery::start::counts_fit` meets its contract: the counts of the message logs, then those of the channel logs.
 use borrow.Author.Needs.{needs}
 use borrow.Author.Tests.{not-true, not-false}
 use native.Mathlib.Omega.{arith}
 use Rattle.model.specs.Layout.{cell, slot, processRecord, channelRecord, countCell}
 use Rattle.model.specs.Start.{storedLine}
 use Rattle.model.proofs.store.Sizes.{Sized, sized-start}
-use Rattle.engine.proofs.Recovering.{messages-over, messages-fit}
-use Rattle.engine.proofs.start.counts_fit.Statement.{statement}
-use Rattle.engine.proofs.start.counts_fit.Tie as tie
+use Rattle.recovery.proofs.Recovering.{messages-over, messages-fit}
+use Rattle.recovery.proofs.start.counts_fit.Statement.{statement}
+use Rattle.recovery.proofs.start.counts_fit.Tie as tie
 
 -- the topology's sizes and the store's
 sized : (c : tie.Start) → Sized (c .args .topology) (c .args .store .now)

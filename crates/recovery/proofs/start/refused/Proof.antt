@@ -1,9 +1,9 @@
--- `engine::start::refused` meets its contract.
+-- `recovery::start::refused` meets its contract.
 use mathlib.Core.Path.{refl}
 use borrow.Author.Needs.{needs}
 use Rattle.model.specs.State.{blankState, blankTopology}
-use Rattle.engine.proofs.start.refused.Statement.{statement}
-use Rattle.engine.proofs.start.refused.Tie as tie
+use Rattle.recovery.proofs.start.refused.Statement.{statement}
+use Rattle.recovery.proofs.start.refused.Tie as tie
 
 returns : tie.Need-returns
 unfolding blankState blankTopology

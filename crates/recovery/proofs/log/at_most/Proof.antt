@@ -1,4 +1,4 @@
--- `engine::store::at_most` meets its contract. The loop's invariant: each count below i is at most the limit.
+-- `recovery::log::at_most` meets its contract. The loop's invariant: each count below i is at most the limit.
 use Prim.Native.Nat.{ℕ, _+_, _-_, _*_, _<_, _≤_}
 use mathlib.Core.Path.{_≡_, refl, sym}
 use mathlib.Core.Bool.{Bool, true}
@@ -10,8 +10,8 @@ use lib.Dec.{leb}
 use Rattle.model.specs.Notation.{allBelow}
 use Rattle.model.specs.Layout.{cell}
 use Rattle.model.proofs.laws.Lists.{all-next, all-but}
-use Rattle.engine.proofs.store.at_most.Statement.{statement}
-use Rattle.engine.proofs.store.at_most.Tie as tie
+use Rattle.recovery.proofs.log.at_most.Statement.{statement}
+use Rattle.recovery.proofs.log.at_most.Tie as tie
 
 abbrev fits : List ℕ → ℕ → ℕ → ℕ → ℕ → Bool
 fits store first stride limit i = leb (cell store (first + stride * i)) limit

@@ -29,9 +29,8 @@ use Rattle.model.proofs.laws.Lists.{all-at, or-else-none}
 use Rattle.model.proofs.laws.Passing.{passed}
 use Rattle.model.proofs.laws.TopologyLaws.{Planned}
 use Rattle.model.proofs.store.Sizes.{Sized, sized-start}
-use Rattle.model.proofs.store.Addresses.{in-store, log-within}
-use Rattle.engine.specs.Starts.{Starts}
-use Rattle.engine.proofs.Clearing.{message-cell, channel-cell}
+use Rattle.model.proofs.store.Addresses.{in-store, log-within, message-cell, channel-cell}
+use Rattle.recovery.specs.Starts.{Starts}
 
 -- the two ways in which initialize and recover answer
 module _ (s : GlobalState) (after before : List ℕ) (r : Started) where

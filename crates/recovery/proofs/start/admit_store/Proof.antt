@@ -1,12 +1,12 @@
--- `engine::start::admit_store` meets its contract: 1 to 6 where they refuse, else 16.
+-- `recovery::start::admit_store` meets its contract: 1 to 6 where they refuse, else 16.
 use mathlib.Core.Path.{sym, ap, _∙_}
 use borrow.Author.Needs.{needs}
 use Rattle.model.specs.Notation.{orElse}
 use Rattle.model.specs.Check.{firstRefusal}
 use Rattle.model.specs.Outcome.{refusalOf}
 use Rattle.model.specs.Start.{recoverRefusal}
-use Rattle.engine.proofs.start.admit_store.Statement.{statement}
-use Rattle.engine.proofs.start.admit_store.Tie as tie
+use Rattle.recovery.proofs.start.admit_store.Statement.{statement}
+use Rattle.recovery.proofs.start.admit_store.Tie as tie
 
 counts-fit-requires : tie.Need-counts-fit-requires
 unfolding refusalOf

@@ -1,4 +1,4 @@
--- `engine::start::recover` meets its contract: ready, with what the words and channels are, or refused.
+-- `recovery::start::recover` meets its contract: ready, with what the words and channels are, or refused.
 use mathlib.Core.Path.{_≡_, refl, sym, ap, _∙_}
 use mathlib.Core.Option.{none}
 use borrow.Author.Needs.{needs}
@@ -6,10 +6,10 @@ use native.Mathlib.Omega.{arith}
 use Rattle.model.specs.Layout.{cell}
 use Rattle.model.specs.Start.{recover, recoverRefusal, storedLine}
 use Rattle.model.specs.Outcome.{refusalOf}
-use Rattle.engine.proofs.Recovering.{starts-ready, starts-refused}
-use Rattle.engine.proofs.Recovering.{readable}
-use Rattle.engine.proofs.start.recover.Statement.{statement}
-use Rattle.engine.proofs.start.recover.Tie as tie
+use Rattle.recovery.proofs.Recovering.{starts-ready, starts-refused}
+use Rattle.recovery.proofs.Recovering.{readable}
+use Rattle.recovery.proofs.start.recover.Statement.{statement}
+use Rattle.recovery.proofs.start.recover.Tie as tie
 
 -- past the checks there is no refusal
 ready : (c : tie.After-enum-told)

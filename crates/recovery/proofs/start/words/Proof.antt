@@ -1,4 +1,4 @@
--- `engine::start::words` meets its contract. The loop's invariant: the words of the first p processes are there, and
+-- `recovery::start::words` meets its contract. The loop's invariant: the words of the first p processes are there, and
 -- the others are 0.
 use Prim.Native.Nat.{ℕ, _-_, _<_, _≤_}
 use mathlib.Core.Path.{_≡_, refl, ap₂, _∙_}
@@ -10,9 +10,9 @@ use Rattle.model.specs.Topology.{processLimit}
 use Rattle.model.specs.Layout.{cell, slot, processRecord, physicalCell, messageLog, entriesFrom, entriesBy}
 use Rattle.model.specs.Start.{storedLine, restoredBy, restored}
 use Rattle.model.proofs.laws.Functions.{seen-replicate, filledBelow, filled-none, filled-more}
-use Rattle.engine.proofs.Recovering.{Readable, readable, last-in-store, wordOf, words-below}
-use Rattle.engine.proofs.start.words.Statement.{statement}
-use Rattle.engine.proofs.start.words.Tie as tie
+use Rattle.recovery.proofs.Recovering.{Readable, readable, last-in-store, wordOf, words-below}
+use Rattle.recovery.proofs.start.words.Statement.{statement}
+use Rattle.recovery.proofs.start.words.Tie as tie
 
 abbrev Inv-loop : tie.InvT-loop
 Inv-loop topology store line r₀ p₀ r p =

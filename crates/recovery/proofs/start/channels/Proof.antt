@@ -1,4 +1,4 @@
--- `engine::start::channels` meets its contract. The loop's invariant: the first c channels are filled, and the others
+-- `recovery::start::channels` meets its contract. The loop's invariant: the first c channels are filled, and the others
 -- are empty.
 use Prim.Native.Nat.{ℕ, _-_, _<_, _≤_}
 use mathlib.Core.Path.{_≡_, refl, ap, _∙_}
@@ -13,10 +13,10 @@ use Rattle.model.specs.Topology.{channelLimit}
 use Rattle.model.specs.Layout.{cell, Log, channelLog, entriesFrom, entriesBy, logged}
 use Rattle.model.proofs.laws.Functions.{filledBelow, filled-none, filled-more}
 use Rattle.model.specs.Start.{storedLine}
-use Rattle.engine.proofs.Recovering.{no-entries}
-use Rattle.engine.proofs.Recovering.{Readable, readable, last-in-store, channelOf, channels-below}
-use Rattle.engine.proofs.start.channels.Statement.{statement}
-use Rattle.engine.proofs.start.channels.Tie as tie
+use Rattle.recovery.proofs.Recovering.{no-entries}
+use Rattle.recovery.proofs.Recovering.{Readable, readable, last-in-store, channelOf, channels-below}
+use Rattle.recovery.proofs.start.channels.Statement.{statement}
+use Rattle.recovery.proofs.start.channels.Tie as tie
 
 abbrev Inv-loop : tie.InvT-loop
 Inv-loop topology store line r₀ c₀ r c =

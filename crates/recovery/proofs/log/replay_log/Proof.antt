@@ -1,4 +1,4 @@
--- `engine::store::replay_log` meets its contract. The loop's invariant: the first i bodies have entered the word.
+-- `recovery::log::replay_log` meets its contract. The loop's invariant: the first i bodies have entered the word.
 use borrow.Author.Needs.{needs}
 use native.Mathlib.Omega.{arith}
 use Prim.Native.Nat.{ℕ, _+_, _-_, _≤_}
@@ -9,8 +9,8 @@ use Rattle.model.specs.Word.{enter, replay}
 use Rattle.model.specs.Layout.{cell, entriesFrom}
 use Rattle.model.proofs.laws.Lists.{tabulate-more}
 use Rattle.model.proofs.laws.HistoryLaws.{replay-snoc}
-use Rattle.engine.proofs.store.replay_log.Statement.{statement}
-use Rattle.engine.proofs.store.replay_log.Tie as tie
+use Rattle.recovery.proofs.log.replay_log.Statement.{statement}
+use Rattle.recovery.proofs.log.replay_log.Tie as tie
 
 -- one body more
 replay-more : (store : List ℕ) (at i word : ℕ)

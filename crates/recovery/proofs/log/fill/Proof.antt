@@ -1,4 +1,4 @@
--- `engine::store::fill` meets its contract. The loop's invariant: the first i bodies are the log's.
+-- `recovery::log::fill` meets its contract. The loop's invariant: the first i bodies are the log's.
 use borrow.Author.Needs.{needs}
 use native.Mathlib.Omega.{arith}
 use Prim.Native.Nat.{ℕ, _+_, _-_, _<_, _≤_}
@@ -10,8 +10,8 @@ use Rattle.model.specs.Layout.{cell, entriesFrom}
 use Rattle.model.specs.Channel.{channelRoom}
 use Rattle.model.proofs.laws.Functions.{Indices, indices, same, other}
 use Rattle.model.proofs.laws.ChannelLaws.{entries-messages}
-use Rattle.engine.proofs.store.fill.Statement.{statement}
-use Rattle.engine.proofs.store.fill.Tie as tie
+use Rattle.recovery.proofs.log.fill.Statement.{statement}
+use Rattle.recovery.proofs.log.fill.Tie as tie
 
 -- the first n of the list are the bodies of the log whose count stands in the cell at
 abbrev Filled : List ℕ → ℕ → List ℕ → ℕ → Type 0

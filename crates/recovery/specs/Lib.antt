@@ -1,0 +1,2 @@
+-- What recover promises, and initialize with it, in terms of the model's definitions.
+pub mod Starts

@@ -1,0 +1,63 @@
+// The logs in the store, as recover reads them.
+use model::Channel;
+use model::ROOM;
+use rules::word;
+ghost use mathlib.Core.Path.{_≡_};
+ghost use mathlib.Core.Bool.{false};
+ghost use Prim.Native.Nat.{ℕ, _+_, _*_, _<_, _≤_};
+ghost use lib.ListN.{length};
+ghost use lib.Dec.{leb};
+ghost use Rattle.model.specs.Notation.{allBelow};
+ghost use Rattle.model.specs.Word.{replay};
+ghost use Rattle.model.specs.Channel.{channelRoom, entries, messages};
+ghost use Rattle.model.specs.Layout.{cell};
+ghost use Rattle.recovery.specs.Starts.{loggedAt};
+
+// Whether n cells, from first on and each a stride after the one before, hold at most the limit.
+pub fn at_most(store: &[u32], first: usize, stride: usize, n: u8, limit: u8) -> bool
+    requires { ⌜ ((i : ℕ) → i < n → first + stride * i < length (now store)) ⌝ }
+    ensures { λ r. ⌜ r ≡ allBelow n (λ i. leb (cell (now (store .entry)) (first + stride * i)) limit) ⌝ }
+{
+    let mut i: usize = 0;
+    while i < n as usize {
+        if (limit as u32) < store[first + stride * i] {
+            return false;
+        }
+        i += 1;
+    }
+    true
+}
+
+// What the log whose count stands in the cell at makes of a word.
+pub fn replay_log(store: &[u32], at: usize, word: u32) -> u32
+    requires { ⌜ at + cell (now store) at < length (now store) ⌝ }
+    ensures { λ r. ⌜ r ≡ replay word (loggedAt (now (store .entry)) at) ⌝ }
+{
+    let n = store[at] as usize;
+    let mut w = word;
+    let mut i = 0;
+    while i < n {
+        w = word::enter(w, store[at + 1 + i]);
+        i += 1;
+    }
+    w
+}
+
+// A channel with the log's bodies as messages tagged 0.
+pub fn fill(store: &[u32], at: usize) -> Channel
+    requires { ⌜ (cell (now store) at ≤ channelRoom) × (at + cell (now store) at < length (now store)) ⌝ }
+    ensures { λ r. ⌜ entries r ≡ messages false (loggedAt (now (store .entry)) at) ⌝ }
+{
+    let n = store[at] as usize;
+    let mut bodies = [0; ROOM];
+    let mut i = 0;
+    while i < n {
+        bodies[i] = store[at + 1 + i];
+        i += 1;
+    }
+    Channel {
+        bodies,
+        kinds: [0; ROOM],
+        count: n as u8,
+    }
+}

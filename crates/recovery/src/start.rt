@@ -1,0 +1,185 @@
+// Recover, document 01's restart; and what initialize, its setup, has in common with it: refusals 1 to 6, the first
+// state, and how a refusal is answered.
+use crate::log;
+use model::CHANNELS;
+use model::Channel;
+use model::PROCESSES;
+use model::Phase;
+use model::Refusal;
+use model::Round;
+use model::Start;
+use model::Started;
+use model::State;
+use model::Topology;
+use model::Verdict;
+use rules::channel;
+use rules::fresh;
+use rules::layout;
+use rules::topology;
+ghost use mathlib.Core.Path.{_≡_};
+ghost use mathlib.Core.List.{[]};
+ghost use mathlib.Core.Option.{none, some};
+ghost use lib.ListN.{length};
+ghost use Rattle.model.specs.Outcome.{refusalNumber, refusalOf, startRefusal};
+ghost use Rattle.model.specs.State.{view, idleState, blankState};
+ghost use Rattle.model.specs.Start.{initializeRefusal, recover, recoverRefusal, recoveredWord, recoveredChannel};
+ghost use Rattle.model.specs.Start.{countsFit};
+ghost use Rattle.recovery.specs.Starts.{Starts, wordsSeen, channelsSeen};
+
+// An idle state at a line: no progress, no log counts, tags 0.
+fn idle(
+    topology: Topology,
+    line: u32,
+    words: [u32; PROCESSES],
+    channels: [Channel; CHANNELS],
+) -> State
+    ensures { λ r. ⌜ view r ≡ idleState topology line (wordsSeen words) (channelsSeen channels) ⌝ }
+{
+    let round = Round {
+        line,
+        phase: Phase::Idle,
+    };
+    let flags = fresh::flags();
+    let counts = fresh::counts();
+    State {
+        topology,
+        round,
+        words,
+        tags: [false; PROCESSES],
+        channels,
+        flags,
+        counts,
+    }
+}
+
+// The idle state at line 0, with words 0 and empty channels.
+pub fn initial(topology: Topology) -> State
+    ensures { λ r. ⌜ view r ≡ idleState topology 0 (λ p. 0) (λ c. []) ⌝ }
+{
+    let empty = channel::empty();
+    idle(topology, 0, [0; PROCESSES], [empty; CHANNELS])
+}
+
+// A refusal, with the blank state: no process, no channel.
+pub fn refused(refusal: Refusal) -> Started
+    ensures { λ r. ⌜ (startRefusal (r .start) ≡ some (refusalNumber refusal)) × (view (r .state) ≡ blankState) ⌝ }
+{
+    let state = initial(Topology {
+        processes: 0,
+        channels: 0,
+        from: [0; CHANNELS],
+        to: [0; CHANNELS],
+    });
+    Started {
+        start: Start::Refused(refusal),
+        state,
+    }
+}
+
+// Refusals 1 to 6.
+pub fn admit(topology: Topology, cells: usize) -> Verdict
+    ensures { λ r. ⌜ refusalOf r ≡ initializeRefusal topology cells ⌝ }
+{
+    match topology::check(topology) {
+        Verdict::Pass => {
+            if cells < layout::STORE_CELLS {
+                Verdict::Refuse(Refusal::ShortStore)
+            } else {
+                Verdict::Pass
+            }
+        }
+        Verdict::Refuse(r) => Verdict::Refuse(r),
+    }
+}
+
+// Refusal 16: whether the logs of the store's line are within their places.
+fn counts_fit(topology: Topology, store: &[u32]) -> bool
+    requires { ⌜ initializeRefusal topology (length (now store)) ≡ none ⌝ }
+    ensures { λ r. ⌜ r ≡ countsFit topology (now (store .entry)) ⌝ }
+{
+    let line = store[layout::LINE_CELL];
+    let messages = layout::message_count_cell(line, 0);
+    if !log::at_most(
+        store,
+        messages,
+        layout::PROCESS_CELLS,
+        topology.processes,
+        layout::MESSAGE_PLACES,
+    ) {
+        return false;
+    }
+    let channels = layout::channel_count_cell(line, 0);
+    log::at_most(
+        store,
+        channels,
+        layout::CHANNEL_CELLS,
+        topology.channels,
+        layout::CHANNEL_PLACES,
+    )
+}
+
+// Refusals 1 to 6, then 16.
+fn admit_store(topology: Topology, store: &[u32]) -> Verdict
+    ensures { λ r. ⌜ refusalOf r ≡ recoverRefusal topology (now (store .entry)) ⌝ }
+{
+    match admit(topology, store.len()) {
+        Verdict::Pass => {
+            if counts_fit(topology, store) {
+                Verdict::Pass
+            } else {
+                Verdict::Refuse(Refusal::BadCount)
+            }
+        }
+        Verdict::Refuse(r) => Verdict::Refuse(r),
+    }
+}
+
+// The words, by replaying the message logs on the physical checkpoints.
+fn words(topology: Topology, store: &[u32]) -> [u32; PROCESSES]
+    requires { ⌜ recoverRefusal topology (now store) ≡ none ⌝ }
+    ensures { λ r. ⌜ wordsSeen r ≡ recoveredWord topology (now (store .entry)) ⌝ }
+{
+    let line = store[layout::LINE_CELL];
+    let mut r = [0; PROCESSES];
+    let mut p: u8 = 0;
+    while p < topology.processes {
+        let word = store[layout::physical_cell(line, p)];
+        r[p as usize] = log::replay_log(store, layout::message_count_cell(line, p), word);
+        p += 1;
+    }
+    r
+}
+
+// The channels, filled from their logs.
+fn channels(topology: Topology, store: &[u32]) -> [Channel; CHANNELS]
+    requires { ⌜ recoverRefusal topology (now store) ≡ none ⌝ }
+    ensures { λ r. ⌜ channelsSeen r ≡ recoveredChannel topology (now (store .entry)) ⌝ }
+{
+    let line = store[layout::LINE_CELL];
+    let empty = channel::empty();
+    let mut r = [empty; CHANNELS];
+    let mut c: u8 = 0;
+    while c < topology.channels {
+        r[c as usize] = log::fill(store, layout::channel_count_cell(line, c));
+        c += 1;
+    }
+    r
+}
+
+// Document 01's restart: it only reads. Of any topology and any store.
+pub fn recover(topology: Topology, store: &[u32]) -> Started
+    ensures { λ r. ⌜ Starts (recover topology (now (store .entry))) r (now (store .entry)) ⌝ }
+{
+    match admit_store(topology, store) {
+        Verdict::Pass => {
+            let words = words(topology, store);
+            let channels = channels(topology, store);
+            let state = idle(topology, store[layout::LINE_CELL], words, channels);
+            Started {
+                start: Start::Ready,
+                state,
+            }
+        }
+        Verdict::Refuse(r) => refused(r),
+    }
+}
