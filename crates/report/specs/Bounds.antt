@@ -1,4 +1,4 @@
--- How many bytes the texts have at most. Every number that is printed is below 2^32.
+-- How many bytes the texts have at most. Every number that is printed is a `u32` of the code.
 use Prim.Native.Nat.{ℕ, _+_, _*_}
 
 -- "4294967295"
@@ -9,7 +9,7 @@ numberBytes = 10
 abbrev pub valueBytes : ℕ
 valueBytes = 1 + numberBytes
 
--- "took 4294967295"
+-- "took 4294967295" and "line 4294967295"; a refusal's number is a byte
 abbrev pub saidBytes : ℕ
 saidBytes = 4 + valueBytes
 

@@ -71,7 +71,8 @@ module _ (source : BudgetSource) (T : Topology) (n : ℕ) (s : GlobalState) (sto
         fuel source (length bytes) (length after) after (bytes-after a h) (omega (arith, fewer a)) (omega arith),
       )
 
--- What the rest of a session prints at this place is what all of it prints, from where it began.
+-- What the rest of a session, of n bytes, prints at this place is what all of it, of n₀ bytes, prints from where it
+-- began.
 abbrev pub Leads : ℕ → Session → List ℕ → ℕ → ℕ → Session → List ℕ → ℕ → Type 0
 Leads n here out at n₀ all out₀ at₀ =
     (after : List ℕ) (r : ℕ) (s : GlobalState) (left : List ℕ) → Prints n here out at after r s left

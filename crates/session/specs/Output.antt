@@ -17,16 +17,16 @@ use Rattle.report.specs.Text.{processText, channelText, outputText}
 unfoldable pub headText : List ℕ → List ℕ
 headText input = outputText (head input)
 
--- No output is longer than this. A request has at least 2 bytes, and where the bytes break off there is at least 1: so
--- there is half a line for each byte, and half a line more.
+-- How many bytes an output has at most. A request has at least 2 bytes, and where the bytes break off there is at least
+-- 1: so there is at most half a line for each byte, and half a line more.
 abbrev pub requestsBytes : ℕ → ℕ
 requestsBytes bytes = lineBytes / 2 * (bytes + 1)
 
--- the requests, the processes and the channels
+-- with the processes and the channels: all that `head` prints
 abbrev pub playedBytes : ℕ
 playedBytes = requestsBytes inputBytes + processLimit * processBytes + channelLimit * channelBytes
 
--- and `drill`'s cells: 1,515,054 bytes
+-- with the cells that `drill` prints: 1,515,054 bytes
 abbrev pub outputBytes : ℕ
 outputBytes = playedBytes + storeCells * cellBytes
 

@@ -14,17 +14,17 @@ ghost use lib.ListN.{replicate};
 ghost use Rattle.session.specs.Drill.{drillText};
 ghost use Rattle.session.specs.Output.{headText, outputBytes, WholeText};
 
-// No output is longer: specs/Output.antt has the sum.
+// No output is longer than this: specs/Output.antt has the sum.
 const OUTPUT_BYTES: usize = 1515054;
 
-// A buffer that holds it.
+// A buffer that holds every output.
 pub fn buffer() -> [u8; OUTPUT_BYTES]
     ensures { λ r. ⌜ r ≡ replicate outputBytes 0 ⌝ }
 {
     [0; OUTPUT_BYTES]
 }
 
-// What `head` prints for an input: each call with full current, on a store of zeros.
+// What `head` prints for an input, and how many bytes that is: each call with full current, on a store of zeros.
 pub fn head(input: &[u8], out: &mut [u8; OUTPUT_BYTES]) -> usize
     ensures { λ r. ⌜ WholeText (headText (now (input .entry))) (now (out .entry)) (now (out .exit)) r ⌝ }
 {
@@ -32,8 +32,8 @@ pub fn head(input: &[u8], out: &mut [u8; OUTPUT_BYTES]) -> usize
     play::play(BudgetSource::Full, input, &mut store, out)
 }
 
-// What `drill` prints for an input: each call with the budget given before it, on a store full of rubbish, and last the
-// cells that differ.
+// What `drill` prints for an input, and how many bytes that is: each call with the budget given before it, on a store
+// full of rubbish, and last the cells that differ.
 pub fn drill(input: &[u8], out: &mut [u8; OUTPUT_BYTES]) -> usize
     ensures { λ r. ⌜ WholeText (drillText (now (input .entry))) (now (out .entry)) (now (out .exit)) r ⌝ }
 {

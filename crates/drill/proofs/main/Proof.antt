@@ -1,4 +1,4 @@
--- `main` meets its contract: what is written out is a part of the buffer.
+-- `main` meets its contract: what is written out, the whole text, is a part of the buffer.
 use borrow.Author.Needs.{needs}
 use Rattle.session.proofs.Lines.{written-part}
 use Rattle.drill.proofs.main.Statement.{statement}
