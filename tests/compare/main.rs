@@ -1,7 +1,9 @@
 //! Compares `head` and `drill` with the reference on fixed and random inputs,
 //! byte for byte, and checks demand 3 after every call.
 //!
-//!     compare HEAD DRILL [LISTS [SEED]]
+//!     compare HEAD DRILL [LISTS [SEED [SECONDS]]]
+//!
+//! SECONDS are spent on making a failing input smaller.
 
 mod cases;
 mod directed;
@@ -22,17 +24,24 @@ use std::process::ExitCode;
 use std::time::{Duration, Instant};
 use watcher::Watcher;
 
-/// Random lists, and their seed base, where the caller names none.
+/// Random lists, their seed base, and the seconds, where the caller names none.
 const LISTS: u64 = 3000;
 const SEED: u64 = 1;
-/// Time spent on making a failing input smaller.
-const SHRINKING: Duration = Duration::from_secs(20);
+const SECONDS: u64 = 20;
 /// Lines of an output that are shown of a failing input.
 const SHOWN: usize = 60;
 
 struct Binaries {
     head: PathBuf,
     drill: PathBuf,
+}
+
+/// What the caller asks for.
+struct Order {
+    binaries: Binaries,
+    lists: u64,
+    seed: u64,
+    shrinking: Duration,
 }
 
 /// How an input fails.
@@ -72,11 +81,11 @@ fn beginning(text: &str) -> String {
     lines.join("\n")
 }
 
-fn tell(binaries: &Binaries, list: &List) {
+fn tell(binaries: &Binaries, list: &List, shrinking: Duration) {
     println!("compare: {}, {} bytes, fails", list.name, list.bytes.len());
     let mut fails =
         |bytes: &[u8]| binaries.compare(list.program, bytes, &mut Seen::default()).is_some();
-    let until = Instant::now() + SHRINKING;
+    let until = Instant::now() + shrinking;
     let mut search = shrink::Search { program: list.program, until, fails: &mut fails };
     let bytes = search.smallest(&list.bytes);
     let Some(failure) = binaries.compare(list.program, &bytes, &mut Seen::default()) else {
@@ -101,12 +110,12 @@ fn tell(binaries: &Binaries, list: &List) {
 }
 
 /// All lists through both; the number of lists, or none where one fails.
-fn compare_all(binaries: &Binaries, lists: u64, seed: u64, seen: &mut Seen) -> Option<u64> {
-    let random = (0..lists).map(|number| lists::random(seed, number));
+fn compare_all(order: &Order, seen: &mut Seen) -> Option<u64> {
+    let random = (0..order.lists).map(|number| lists::random(order.seed, number));
     let mut agree = 0;
     for list in directed::all().into_iter().chain(random) {
-        if binaries.compare(list.program, &list.bytes, seen).is_some() {
-            tell(binaries, &list);
+        if order.binaries.compare(list.program, &list.bytes, seen).is_some() {
+            tell(&order.binaries, &list, order.shrinking);
             return None;
         }
         agree += 1;
@@ -114,25 +123,29 @@ fn compare_all(binaries: &Binaries, lists: u64, seed: u64, seen: &mut Seen) -> O
     Some(agree)
 }
 
-fn arguments() -> Option<(Binaries, u64, u64)> {
+fn arguments() -> Option<Order> {
     let arguments: Vec<String> = std::env::args().skip(1).collect();
     let number = |at: usize, default: u64| match arguments.get(at) {
         Some(text) => text.parse().ok(),
         None => Some(default),
     };
-    let (2..=4, [head, drill, ..]) = (arguments.len(), &arguments[..]) else {
+    let (2..=5, [head, drill, ..]) = (arguments.len(), &arguments[..]) else {
         return None;
     };
-    let binaries = Binaries { head: head.into(), drill: drill.into() };
-    Some((binaries, number(2, LISTS)?, number(3, SEED)?))
+    Some(Order {
+        binaries: Binaries { head: head.into(), drill: drill.into() },
+        lists: number(2, LISTS)?,
+        seed: number(3, SEED)?,
+        shrinking: Duration::from_secs(number(4, SECONDS)?),
+    })
 }
 
 fn main() -> ExitCode {
-    let Some((binaries, lists, seed)) = arguments() else {
-        eprintln!("usage: compare HEAD DRILL [LISTS [SEED]]");
+    let Some(order) = arguments() else {
+        eprintln!("usage: compare HEAD DRILL [LISTS [SEED [SECONDS]]]");
         return ExitCode::from(2);
     };
-    for path in [&binaries.head, &binaries.drill] {
+    for path in [&order.binaries.head, &order.binaries.drill] {
         if !path.is_file() {
             eprintln!("compare: no program {}", path.display());
             return ExitCode::from(2);
@@ -146,7 +159,7 @@ fn main() -> ExitCode {
         }
     };
     let mut seen = Seen::default();
-    let Some(agree) = compare_all(&binaries, lists, seed, &mut seen) else {
+    let Some(agree) = compare_all(&order, &mut seen) else {
         return ExitCode::FAILURE;
     };
     let sights = match seen.report() {

@@ -109,8 +109,8 @@ impl Search<'_> {
             let before = best.len();
             if let Some(parts) = Parts::read(self.program, &best) {
                 let smaller = self.fewer_parts(parts).write(self.program);
-                // Bytes past the input's end are gone now, so it is tried anew.
-                if smaller.len() < best.len() && self.try_one(&smaller) {
+                // Shorter only by what failed without it.
+                if smaller.len() < best.len() {
                     best = smaller;
                 }
             }
@@ -121,12 +121,13 @@ impl Search<'_> {
         }
     }
 
-    fn try_one(&mut self, bytes: &[u8]) -> bool {
-        Instant::now() < self.until && (self.fails)(bytes)
+    /// Whether it fails; none where the time is up.
+    fn try_one(&mut self, bytes: &[u8]) -> Option<bool> {
+        (Instant::now() < self.until).then(|| (self.fails)(bytes))
     }
 
     fn keep(&mut self, candidate: Parts, parts: &mut Parts) {
-        if self.try_one(&candidate.write(self.program)) {
+        if self.try_one(&candidate.write(self.program)) == Some(true) {
             *parts = candidate;
         }
     }
@@ -150,8 +151,8 @@ impl Search<'_> {
     }
 }
 
-/// Takes out stretches of items, long ones first, as long as it still fails.
-fn fewer<T: Clone>(mut items: Vec<T>, fails: &mut impl FnMut(&[T]) -> bool) -> Vec<T> {
+/// Takes out stretches of items, long ones first, as long as it still fails and there is time.
+fn fewer<T: Clone>(mut items: Vec<T>, fails: &mut impl FnMut(&[T]) -> Option<bool>) -> Vec<T> {
     let mut stretch = items.len();
     while stretch > 0 {
         let mut at = items.len();
@@ -159,8 +160,10 @@ fn fewer<T: Clone>(mut items: Vec<T>, fails: &mut impl FnMut(&[T]) -> bool) -> V
             let from = at.saturating_sub(stretch);
             let mut candidate = items.clone();
             candidate.drain(from..at);
-            if fails(&candidate) {
-                items = candidate;
+            match fails(&candidate) {
+                Some(true) => items = candidate,
+                Some(false) => (),
+                None => return items,
             }
             at = from.min(items.len());
         }

@@ -2,11 +2,13 @@
 //! and the reference's `head` too. A line for each case; the last says how many passed.
 //!
 //!     scripts HEAD DRILL FILE ..
+//!     scripts --wrong FILE ..     tests this runner: each answer, made wrong, has to be found on the reference
 
 mod play;
 #[path = "../compare/runner.rs"]
 mod runner;
 mod script;
+mod wrong;
 
 use play::{play, Side};
 use reference::program::{self, Program, Unwatched};
@@ -19,19 +21,29 @@ fn run(program: &str, input: &[u8]) -> Result<String, String> {
     String::from_utf8(output).map_err(|error| error.to_string())
 }
 
-fn run_reference(program: Program, input: &[u8]) -> Result<String, String> {
-    Ok(program::run(program, input, &mut Unwatched))
+fn reference_head(input: &[u8]) -> Result<String, String> {
+    Ok(program::run(Program::Head, input, &mut Unwatched))
+}
+
+fn reference_drill(input: &[u8]) -> Result<String, String> {
+    Ok(program::run(Program::Drill, input, &mut Unwatched))
+}
+
+const REFERENCE: [Side; 2] = [
+    Side { name: "the reference of drill", program: Program::Drill, run: &reference_drill },
+    Side { name: "the reference of head", program: Program::Head, run: &reference_head },
+];
+
+/// Where a case isn't answered as expected, and how: the first such line on each side.
+fn faults(case: &Case, sides: &[Side]) -> Vec<(usize, String)> {
+    let played = |side: &&Side| side.program == Program::Drill || !case.limits_current();
+    sides.iter().filter(played).filter_map(|side| play(case, side).err()).collect()
 }
 
 /// Whether every side answers a case as expected; its line is printed, and below it where and how one doesn't.
 fn passes(file: &str, case: &Case, sides: &[Side]) -> bool {
-    let played = |side: &&Side| side.program == Program::Drill || !case.limits_current();
-    let faults: Vec<String> = sides
-        .iter()
-        .filter(played)
-        .filter_map(|side| play(case, side).err())
-        .map(|(number, why)| format!("  {file}:{number}: {why}"))
-        .collect();
+    let tell = |(number, why): &(usize, String)| format!("  {file}:{number}: {why}");
+    let faults: Vec<String> = faults(case, sides).iter().map(tell).collect();
     if faults.is_empty() {
         println!("ok {}", case.name);
     } else {
@@ -40,48 +52,62 @@ fn passes(file: &str, case: &Case, sides: &[Side]) -> bool {
     faults.is_empty()
 }
 
-fn all(head: &str, drill: &str, files: &[String]) -> Result<(usize, usize), String> {
+/// The cases of a script: how many passed and how many failed.
+fn cases(file: &str, text: &str, sides: &[Side]) -> Result<(usize, usize), String> {
+    let cases = script::read(file, text)?;
+    let passed = cases.iter().filter(|case| passes(file, case, sides)).count();
+    Ok((passed, cases.len() - passed))
+}
+
+/// The cases of the files through the programs and the reference.
+fn play_all(head: &str, drill: &str, files: &[String]) -> Result<(usize, usize), String> {
+    for program in [head, drill] {
+        if !Path::new(program).is_file() {
+            return Err(format!("no program {program}"));
+        }
+    }
     let run_head = |input: &[u8]| run(head, input);
     let run_drill = |input: &[u8]| run(drill, input);
-    let reference_head = |input: &[u8]| run_reference(Program::Head, input);
-    let reference_drill = |input: &[u8]| run_reference(Program::Drill, input);
+    let [reference_drill, reference_head] = REFERENCE;
     let sides = [
         Side { name: "drill", program: Program::Drill, run: &run_drill },
-        Side { name: "the reference of drill", program: Program::Drill, run: &reference_drill },
+        reference_drill,
         Side { name: "head", program: Program::Head, run: &run_head },
-        Side { name: "the reference of head", program: Program::Head, run: &reference_head },
+        reference_head,
     ];
+    each(files, |file, text| cases(file, text, &sides))
+}
+
+/// How much passed and how much failed of what is done with each file's text.
+fn each(
+    files: &[String],
+    work: impl Fn(&str, &str) -> Result<(usize, usize), String>,
+) -> Result<(usize, usize), String> {
     let (mut passed, mut failed) = (0, 0);
     for file in files {
         let text = std::fs::read_to_string(file).map_err(|error| format!("{file}: {error}"))?;
-        for case in script::read(file, &text)? {
-            if passes(file, &case, &sides) {
-                passed += 1;
-            } else {
-                failed += 1;
-            }
-        }
+        let (more, less) = work(file, &text)?;
+        (passed, failed) = (passed + more, failed + less);
     }
     Ok((passed, failed))
 }
 
 fn main() -> ExitCode {
     let arguments: Vec<String> = std::env::args().skip(1).collect();
-    let [head, drill, files @ ..] = &arguments[..] else {
-        eprintln!("usage: scripts HEAD DRILL FILE ..");
-        return ExitCode::from(2);
+    let done = match &arguments[..] {
+        [flag, files @ ..] if flag == "--wrong" => {
+            each(files, |file, text| wrong::answers(file, text, &REFERENCE))
+        }
+        [head, drill, files @ ..] => play_all(head, drill, files),
+        _ => Err("usage: scripts HEAD DRILL FILE .., or scripts --wrong FILE ..".to_string()),
     };
-    if let Some(missing) = [head, drill].iter().find(|program| !Path::new(program).is_file()) {
-        eprintln!("scripts: no program {missing}");
-        return ExitCode::from(2);
-    }
-    match all(head, drill, files) {
+    match done {
         Ok((passed, 0)) if passed > 0 => {
             println!("passed {passed}");
             ExitCode::SUCCESS
         }
         Ok((passed, failed)) => {
-            println!("scripts: {failed} of {} cases failed", passed + failed);
+            println!("scripts: {failed} of {} failed", passed + failed);
             ExitCode::FAILURE
         }
         Err(why) => {
