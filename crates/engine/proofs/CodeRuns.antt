@@ -53,8 +53,8 @@ module _ {T : Topology} {w : World} (i : Replayed T w) where
 
 module _ (T : Topology) where
   -- an initialize, a step and a recover that meet their promises do what the definitions' do
-  started : (before after : List ℕ) (r : Started) → Starts (initialize T before) r after → startRefusal (r .start) ≡ none
-      → Replayed T (worldOf (r .state) after newHistory 0)
+  started : (before after : List ℕ) (r : Started) → Starts (initialize T before) r after
+      → startRefusal (r .start) ≡ none → Replayed T (worldOf (r .state) after newHistory 0)
   unfolding run firstWorld
   started before after r meets ready =
       record {
@@ -66,7 +66,8 @@ module _ (T : Topology) where
 
   module _ (s : State) {store : List ℕ} {h : History} {commits : ℕ} (i : Replayed T (worldOf s store h commits)) where
     after-step : (x : Step) (budget : ℕ) (r : Answer) (after : List ℕ) → Answers s x store budget r after
-        → Replayed T (worldOf (r .state) after (onStep T x (saidBy (r .outcome)) h) (countCommit x (saidBy (r .outcome)) commits))
+        → let said = saidBy (r .outcome) in
+        Replayed T (worldOf (r .state) after (onStep T x said h) (countCommit x said commits))
     unfolding next replyTo onReply onCall commitsAfter stateAfter storeAfter
     after-step x budget r after meets =
         subst (Replayed T) (rw (meets .state, meets .store, meets .outcome)) (more i (call x budget))

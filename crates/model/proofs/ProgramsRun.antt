@@ -17,7 +17,8 @@ use Rattle.model.specs.Topology.{topologyRefusal}
 use Rattle.model.specs.Layout.{storeCells}
 use Rattle.model.specs.Start.{initializeRefusal, initialize, recoverSaid, lineOr}
 use Rattle.model.specs.Program.{Request, Line, Session, ofAnswer, ofStartup, serve, lineThen, brokenLine}
-use Rattle.model.specs.Program.{session, sessionFrom, sessionOf, Readings, readAll, inputBytes, planOf, planLength, shapeRefusal, planRefusal}
+use Rattle.model.specs.Program.{session, sessionFrom, sessionOf, Readings, readAll, inputBytes}
+use Rattle.model.specs.Program.{planOf, planLength, shapeRefusal, planRefusal}
 use Rattle.model.specs.Run.{Call, call, recovery, World, replyTo, next, run, trace, firstWorld, stateAfter}
 use Rattle.model.specs.Run.{storeAfter}
 use Rattle.model.specs.ProgramRuns.{callWith, callOf, replyLine, replyLines, ToldLines, ProgramsAreRuns}
@@ -83,7 +84,8 @@ module _ (T : Topology) where
       → ToldLines (w .commits) (trace T w calls)
   unfolding trace replyTo recoverSaid lineOr next
   told good w i [] = tt
-  told good w i (call x budget ∷ cs) = (tt, told good (next T w (call x budget)) (call-keeps T good w i (call x budget)) cs)
+  told good w i (call x budget ∷ cs) =
+      (tt, told good (next T w (call x budget)) (call-keeps T good w i (call x budget)) cs)
   told good w i (recovery ∷ cs) =
       let r = recovers-in T w good i in
       (rw (r .accepted, r .line), told good (next T w recovery) (call-keeps T good w i recovery) cs)

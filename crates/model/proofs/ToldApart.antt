@@ -17,7 +17,9 @@ use Rattle.model.specs.Order.{ToldApart}
 -- the refusals in the order of their numbers, from 1 on
 abbrev inNumberOrder : List Refusal
 inNumberOrder =
-    ProcessCount ∷ ChannelCount ∷ UnknownEnd ∷ SelfChannel ∷ DoubledChannel ∷ ShortStore ∷ Malformed ∷ NoSuch ∷ ChannelFull ∷ ChannelEmpty ∷ LogFull ∷ NotNow ∷ LastLine ∷ MarkerOnClosed ∷ Unsound ∷ BadCount ∷ []
+    ProcessCount ∷ ChannelCount ∷ UnknownEnd ∷ SelfChannel ∷ DoubledChannel
+    ∷ ShortStore ∷ Malformed ∷ NoSuch ∷ ChannelFull ∷ ChannelEmpty
+    ∷ LogFull ∷ NotNow ∷ LastLine ∷ MarkerOnClosed ∷ Unsound ∷ BadCount ∷ []
 
 abbrev refusalFor : ℕ → Refusal
 refusalFor n = getD inNumberOrder (n - 1) ProcessCount

@@ -1,4 +1,6 @@
 -- What initialize and recover promise: everything that comes back, and the store after it, is what the definition has.
+-- Open in the state, which is judged by its view, are the unused places of channels; there is no marker in it. The
+-- store is the one that stands when the call returns.
 use Prim.Native.Nat.{ℕ}
 use mathlib.Core.Path.{_≡_}
 use mathlib.Core.List.{List}

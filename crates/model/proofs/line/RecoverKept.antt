@@ -150,7 +150,8 @@ module _ (T : Topology) (store : List ℕ) (accepted : initialize T store .refus
   abbrev after : List ℕ
   after = writeAll store (initializeWrites T)
 
-  initialize-is : initialize T store ≡ record { refusal = none; state = idleState T 0 (λ p. 0) (λ c. []); store = after }
+  initialize-is : initialize T store
+      ≡ record { refusal = none; state = idleState T 0 (λ p. 0) (λ c. []); store = after }
   unfolding initialize startupOr
   initialize-is = rw no-refusal
 

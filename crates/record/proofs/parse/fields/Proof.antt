@@ -78,7 +78,8 @@ all c =
           (body-read b .body .ensures) (b .before .body2 .given .1),
       c .whole .ensures,
     )
-    (whole-parses _ _ _ (c .before .record-of .ensures) (value-within (body-read b .body .ensures) (b .before .body2 .given .1) .next))
+    (whole-parses _ _ _ (c .before .record-of .ensures)
+    (value-within (body-read b .body .ensures) (b .before .body2 .given .1) .next))
 
 pub fields-spec : {M : Type 1} → statement M
 fields-spec =

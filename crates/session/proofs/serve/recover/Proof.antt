@@ -11,14 +11,16 @@ ready c =
     let line = c .before .before in
     let told = line .before .before .before .before in
     let recovered = told .before .before in
-    recover-served _ _ _ _ (recovered .recover .ensures) (ap startRefusal (told .enum-told .given .1)) (line .recover-line .ensures)
+    recover-served _ _ _ _ (recovered .recover .ensures) (ap startRefusal (told .enum-told .given .1))
+    (line .recover-line .ensures)
 
 refused : tie.Need-returns-2
 refused c =
     let line = c .before .before .before in
     let told = line .before .before .before in
     let recovered = told .before .before in
-    recover-refused _ _ _ _ (recovered .recover .ensures) (ap startRefusal (told .start .given .1)) (line .outcome-line .ensures)
+    recover-refused _ _ _ _ (recovered .recover .ensures) (ap startRefusal (told .start .given .1))
+    (line .outcome-line .ensures)
 
 pub recover-spec : {M : Type 1} → statement M
 recover-spec =
