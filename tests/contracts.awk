@@ -1,6 +1,6 @@
 # The functions that another crate can call: `pub fn` in a library's root or in a `pub mod` that is reached from it,
-# what a `pub use` passes on, and `pub fn` in an impl, since whoever has a value can call its methods. Where the rules of
-# the language are finer than this, the scan takes more functions for public, never fewer: a `pub use` in a private
+# what a `pub use` passes on, and `pub fn` in an impl, since whoever has a value can call its methods. Where the rules
+# of the language are finer than this, the scan takes more functions for public, never fewer: a `pub use` in a private
 # module counts as well.
 
 # The file's crate and module: crates/record/src/field.rt is `field` of record, and lib.rt and main.rt are "".

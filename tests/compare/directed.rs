@@ -23,8 +23,25 @@ fn list(name: String, program: Program, bytes: Vec<u8>) -> List {
     List { name, program, bytes }
 }
 
-/// All of them.
-pub fn all() -> Vec<List> {
+/// Those that are about calls: refusals, rounds, power lost in each step, and full logs.
+pub fn calls() -> Vec<List> {
+    let mut lists = Vec::new();
+    for program in BOTH {
+        let bytes = encode(program, &pair(), &refusals());
+        lists.push(list(format!("{program:?}: refusals"), program, bytes));
+        let bytes = encode(program, &pair(), &rounds(12));
+        lists.push(list(format!("{program:?}: twelve rounds"), program, bytes));
+    }
+    cuts(&mut lists);
+    for program in BOTH {
+        let bytes = encode(program, &plans::largest(), &full_logs());
+        lists.push(list(format!("{program:?}: every log full, twice"), program, bytes));
+    }
+    lists
+}
+
+/// Those that are about bytes: the listing damaged, plans, records, and the input's length.
+pub fn bytes() -> Vec<List> {
     let mut lists = Vec::new();
     for program in BOTH {
         let listing = listing(program);
@@ -32,14 +49,7 @@ pub fn all() -> Vec<List> {
         plan_bytes(&mut lists, program);
         record_bytes(&mut lists, program);
         lengths(&mut lists, program);
-        let bytes = encode(program, &plans::largest(), &full_logs());
-        lists.push(list(format!("{program:?}: every log full, twice"), program, bytes));
-        let bytes = encode(program, &pair(), &refusals());
-        lists.push(list(format!("{program:?}: refusals"), program, bytes));
-        let bytes = encode(program, &pair(), &rounds(12));
-        lists.push(list(format!("{program:?}: twelve rounds"), program, bytes));
     }
-    cuts(&mut lists);
     lists
 }
 

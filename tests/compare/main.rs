@@ -109,11 +109,11 @@ fn tell(binaries: &Binaries, list: &List, shrinking: Duration) {
     }
 }
 
-/// All lists through both; the number of lists, or none where one fails.
+/// All lists through both, the many about bytes last; the number of lists, or none where one fails.
 fn compare_all(order: &Order, seen: &mut Seen) -> Option<u64> {
     let random = (0..order.lists).map(|number| lists::random(order.seed, number));
     let mut agree = 0;
-    for list in directed::all().into_iter().chain(random) {
+    for list in directed::calls().into_iter().chain(random).chain(directed::bytes()) {
         if order.binaries.compare(list.program, &list.bytes, seen).is_some() {
             tell(&order.binaries, &list, order.shrinking);
             return None;
