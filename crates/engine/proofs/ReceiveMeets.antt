@@ -171,11 +171,8 @@ module _ (s : State) (n : Lengths s) (c r : ℕ) (below : c < channelLimit) (to-
         words = set (s .words) r w;
         tags = set (s .tags) r g;
         channels = set (s .channels) c k;
-        flags =
-            flagged (s .flags) c r (rw (n .closed) below) (rw (n .logical) to-below) (x .«logical_first») (x .closes);
-        counts =
-            counted (s .counts) c r (rw (n .inChannels) below) (rw (n .inMessages) to-below) (x .«channel_log»)
-            (x .«message_log»);
+        flags = flagged (s .flags) c r (x .«logical_first») (x .closes);
+        counts = counted (s .counts) c r (x .«channel_log») (x .«message_log»);
       }
 
   pub changed-seen : (e : Entry) (es : List Entry) → entries k ≡ es → w ≡ wordAfter e (getD (s .words) r 0)

@@ -118,14 +118,14 @@ module _ (x : Reaction) (a : Setting) where
             second (x .«message_log») (x .«channel_log» && leb channelPlaces (a .«in_channel»)) messagePlaces _ e roomy
 
 -- the counts after it
-module _ (n : Counts) (c p : ℕ) (inChannels : c < length (n .channels)) (inMessages : p < length (n .messages)) where
-  abbrev pub counted : Bool → Bool → Counts
-  counted a b =
-      record {
-        messages = set (n .messages) p (getD (n .messages) p 0 + boolByte b);
-        channels = set (n .channels) c (getD (n .channels) c 0 + boolByte a);
-      }
+abbrev pub counted : Counts → ℕ → ℕ → Bool → Bool → Counts
+counted n c p a b =
+    record {
+      messages = set (n .messages) p (getD (n .messages) p 0 + boolByte b);
+      channels = set (n .channels) c (getD (n .channels) c 0 + boolByte a);
+    }
 
+module _ (n : Counts) (c p : ℕ) (inChannels : c < length (n .channels)) (inMessages : p < length (n .messages)) where
   abbrev raisedIf : Bool → List ℕ → ℕ → ℕ → ℕ
   raisedIf t l i = cond t (upd (λ j. getD l j 0) i (getD l i 0 + 1)) (λ j. getD l j 0)
 
@@ -143,8 +143,8 @@ module _ (n : Counts) (c p : ℕ) (inChannels : c < length (n .channels)) (inMes
   abbrev both : (a b : Bool)
       → _≡_ {A = LogCounts}
       (record {
-        messages = λ j. getD (counted a b .messages) j 0;
-        channels = λ j. getD (counted a b .channels) j 0;
+        messages = λ j. getD (counted n c p a b .messages) j 0;
+        channels = λ j. getD (counted n c p a b .channels) j 0;
       })
       (record {
         messages = raisedIf b (n .messages) p;
@@ -154,7 +154,7 @@ module _ (n : Counts) (c p : ℕ) (inChannels : c < length (n .channels)) (inMes
       λ i. record { messages = more (n .messages) p inMessages b i; channels = more (n .channels) c inChannels a i }
 
   pub counts-raised : (a b : Bool)
-      → viewCounts (counted a b) ≡ raisedAll (logIf a (channelLog c) ++ logIf b (messageLog p)) (viewCounts n)
+      → viewCounts (counted n c p a b) ≡ raisedAll (logIf a (channelLog c) ++ logIf b (messageLog p)) (viewCounts n)
   unfolding viewCounts raisedAll raised
   counts-raised true true = both true true
   counts-raised true false = both true false
@@ -162,24 +162,23 @@ module _ (n : Counts) (c p : ℕ) (inChannels : c < length (n .channels)) (inMes
   counts-raised false false = both false false
 
 -- the flags after it
-module _ (f : Flags) (c r : ℕ) (inClosed : c < length (f .closed)) (inLogical : r < length (f .logical)) where
-  abbrev pub flagged : Bool → Bool → Flags
-  flagged first closes =
-      record {
-        logical = set (f .logical) r (getD (f .logical) r false || first);
-        closed = set (f .closed) c (getD (f .closed) c false || closes);
-        sent = f .sent;
-      }
+abbrev pub flagged : Flags → ℕ → ℕ → Bool → Bool → Flags
+flagged f c r first closes =
+    record {
+      logical = set (f .logical) r (getD (f .logical) r false || first);
+      closed = set (f .closed) c (getD (f .closed) c false || closes);
+      sent = f .sent;
+    }
 
-  pub flags-raised : (first closes : Bool)
-      → viewProgress (flagged first closes) ≡ progressAfter first closes c r (viewProgress f)
-  unfolding viewProgress progressAfter
-  flags-raised first closes =
-      λ i. record {
-        logical = seen-set (λ t. t) (f .logical) r (getD (f .logical) r false || first) false inLogical i;
-        closed = seen-set (λ t. t) (f .closed) c (getD (f .closed) c false || closes) false inClosed i;
-        sent = λ d. getD (f .sent) d false;
-      }
+pub flags-raised : (f : Flags) (c r : ℕ) → c < length (f .closed) → r < length (f .logical) → (first closes : Bool)
+    → viewProgress (flagged f c r first closes) ≡ progressAfter first closes c r (viewProgress f)
+unfolding viewProgress progressAfter
+flags-raised f c r inClosed inLogical first closes =
+    λ i. record {
+      logical = seen-set (λ t. t) (f .logical) r (getD (f .logical) r false || first) false inLogical i;
+      closed = seen-set (λ t. t) (f .closed) c (getD (f .closed) c false || closes) false inClosed i;
+      sent = λ d. getD (f .sent) d false;
+    }
 
 -- a flag raised, and a tag turned over, where that is so
 flag-after : (f : ℕ → Bool) (i : ℕ) (t : Bool) → cond t (upd f i true) f ≡ upd f i (f i || t)

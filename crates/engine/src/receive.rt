@@ -52,7 +52,6 @@ struct Reception {
 
 // Refusals 10, 14 and 11.
 fn check(x: Reaction, at: Setting) -> Verdict
-    requires { ⌜ InArrays at ⌝ }
     ensures { λ r. ⌜ refusalOf r ≡ firstRefusal (receiveChecks x at) ⌝ }
 {
     if at.entries == 0 {
