@@ -1,6 +1,6 @@
 -- Laws of lines printed one after the other, and the output as the code prints it.
 use Prim.Native.Nat.{ℕ, _+_, _*_, _≤_, _<_}
-use mathlib.Core.Path.{_≡_, sym, ap, _∙_}
+use mathlib.Core.Path.{_≡_, ap, _∙_}
 use mathlib.Core.List.{List, [], _++_}
 use lib.ListN.{length, getD, take, length-take}
 use lib.Seq.{take-length, take-paste, drop-paste}
