@@ -33,10 +33,10 @@ use Rattle.rules.specs.Reacting.{viewReaction}
 use Rattle.engine.specs.declared.receive.Setting.{Setting}
 use Rattle.engine.specs.declared.receive.Reception.{Reception}
 use Rattle.engine.specs.Answers.{Meets, ownResult, Performs}
-use Rattle.engine.specs.Receiving.{full, receiveChecks, bodyWrites, wordAfter, unlessRefused}
+use Rattle.engine.specs.Receiving.{countsIn, full, receiveChecks, bodyWrites, wordAfter, unlessRefused}
 use Rattle.engine.specs.Receiving.{answeredWith, Attempts}
 use Rattle.engine.proofs.Lengths.{Lengths}
-use Rattle.engine.proofs.Receptions.{either-full, both-written, flagged, flags-raised, counted, counts-raised}
+use Rattle.engine.proofs.Receptions.{either-full, full-test, both-written, flagged, flags-raised, counted, counts-raised}
 use Rattle.engine.proofs.Receptions.{received}
 use Rattle.engine.proofs.Views.{same-state}
 
@@ -78,7 +78,7 @@ module _ (s : State) (c : ℕ) (planned : c < s .topology .channels) (k : Channe
   -- the logs needed are the channel's and its receiver's
   same-full : anyFull (view s .counts) (viewReaction c r x .logs) ≡ full x setting
   unfolding view viewCounts viewReaction
-  same-full = either-full (viewCounts (s .counts)) c r (x .«channel_log») (x .«message_log»)
+  same-full = either-full (viewCounts (s .counts)) c r (x .«channel_log») (x .«message_log») ∙ sym (full-test x setting)
 
   same-writes : (body : ℕ)
       → logsWrites (nextLine (view s)) (view s .counts) (viewReaction c r x .logs) body
@@ -86,6 +86,7 @@ module _ (s : State) (c : ℕ) (planned : c < s .topology .channels) (k : Channe
   unfolding nextLine view viewCounts viewReaction
   same-writes body =
       both-written (viewCounts (s .counts)) c r (s .round .line + 1) body (x .«channel_log») (x .«message_log»)
+      ∙ sym (both-written (countsIn setting) c r (s .round .line + 1) body (x .«channel_log») (x .«message_log»))
 
   empty : k .count ≡ 0 → firstRefusal (ownChecks (view s) (Receive c)) ≡ firstRefusal (receiveChecks x setting)
   unfolding ownChecks priorChecks roomChecks logChecks hasChannel noEntry firstRefusal entries tabulate view

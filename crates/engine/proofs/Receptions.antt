@@ -35,10 +35,10 @@ use Rattle.model.proofs.laws.Effects.{received-accepted}
 use Rattle.model.proofs.laws.Tests.{true-is-not-false, or-left, or-true, or-false}
 use Rattle.model.proofs.laws.Functions.{upd-unchanged, seen-set}
 use Rattle.rules.specs.declared.reaction.Reaction.{Reaction}
-use Rattle.rules.specs.Reacting.{logIf}
+use Rattle.rules.specs.Reacting.{logIf, viewReaction}
 use Rattle.engine.specs.declared.receive.Setting.{Setting}
 use Rattle.engine.specs.Spent.{Spent, appendIf}
-use Rattle.engine.specs.Receiving.{InArrays, full, receiveChecks, bodyWrites, wordAfter, progressAfter}
+use Rattle.engine.specs.Receiving.{InArrays, countsIn, full, receiveChecks, bodyWrites, wordAfter, progressAfter}
 use Rattle.engine.specs.Receiving.{unlessRefused, Attempts}
 use Rattle.engine.proofs.Promises.{unbudgeted}
 use Rattle.engine.proofs.Views.{same-state}
@@ -98,6 +98,12 @@ second true false m k e f = leb-false m k f
 second false u m k e f = true-is-not-false e refl
 
 module _ (x : Reaction) (a : Setting) where
+  pub full-test : full x a
+      ≡ ((x .«channel_log» && leb channelPlaces (a .«in_channel»))
+      || (x .«message_log» && leb messagePlaces (a .«in_messages»)))
+  unfolding viewReaction
+  full-test = either-full (countsIn a) (a .channel) (a .receiver) (x .«channel_log») (x .«message_log»)
+
   -- no log needed is full: the place for one entry more is in the store
   module _ (h : InArrays a) (roomy : full x a ≡ false) (line : ℕ) where
     pub channel-place : x .«channel_log» ≡ true
@@ -106,7 +112,7 @@ module _ (x : Reaction) (a : Setting) where
     channel-place e = omega (arith, h .channel, below)
       where
         below : a .«in_channel» < channelPlaces
-        below = first (x .«channel_log») channelPlaces _ _ e roomy
+        below = first (x .«channel_log») channelPlaces _ _ e (sym full-test ∙ roomy)
 
     pub message-place : x .«message_log» ≡ true
         → entryCell (countCell line (messageLog (a .receiver))) (a .«in_messages») < storeCells
@@ -115,7 +121,8 @@ module _ (x : Reaction) (a : Setting) where
       where
         below : a .«in_messages» < messagePlaces
         below =
-            second (x .«message_log») (x .«channel_log» && leb channelPlaces (a .«in_channel»)) messagePlaces _ e roomy
+            second (x .«message_log») (x .«channel_log» && leb channelPlaces (a .«in_channel»)) messagePlaces _ e
+            (sym full-test ∙ roomy)
 
 -- the counts after it
 abbrev pub counted : Counts → ℕ → ℕ → Bool → Bool → Counts

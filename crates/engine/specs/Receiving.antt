@@ -3,9 +3,9 @@
 use Prim.Native.Nat.{ℕ, _+_, _<_}
 use mathlib.Core.Path.{_≡_}
 use mathlib.Core.Bool.{Bool, true, cond, _&&_, _||_}
-use mathlib.Core.List.{List, [], _∷_, _++_}
+use mathlib.Core.List.{List, [], _∷_}
 use mathlib.Core.Option.{Option, none, some}
-use lib.Dec.{eqb, leb}
+use lib.Dec.{eqb}
 use Rattle.model.specs.declared.State.{State}
 use Rattle.model.specs.declared.Answer.{Answer}
 use Rattle.model.specs.declared.Entry.{Entry}
@@ -15,26 +15,32 @@ use Rattle.model.specs.Check.{Check, _⇒_, firstRefusal}
 use Rattle.model.specs.Word.{enter}
 use Rattle.model.specs.Topology.{processLimit, channelLimit}
 use Rattle.model.specs.Channel.{bodyOf}
-use Rattle.model.specs.Layout.{messagePlaces, channelPlaces, messageLog, channelLog, countCell}
-use Rattle.model.specs.State.{GlobalState, Progress}
-use Rattle.model.specs.Write.{Write, Result, underBudget}
+use Rattle.model.specs.Layout.{Log}
+use Rattle.model.specs.State.{GlobalState, Progress, LogCounts}
+use Rattle.model.specs.Receive.{anyFull}
+use Rattle.model.specs.Write.{Write, Result, underBudget, logsWrites}
 use Rattle.model.specs.Step.{quietly, receivedOutcome}
 use Rattle.model.specs.Outcome.{refused, saidBy, accepted}
 use Rattle.rules.specs.declared.reaction.Reaction.{Reaction}
+use Rattle.rules.specs.Reacting.{viewReaction}
 use Rattle.engine.specs.declared.receive.Setting.{Setting}
 use Rattle.engine.specs.declared.receive.Reception.{Reception}
-use Rattle.engine.specs.Spent.{appendIf}
 
 -- the code's arrays have the channel and the receiver
 pub record InArrays (a : Setting) : Type 0 where
   pub channel : a .channel < channelLimit
   pub receiver : a .receiver < processLimit
 
--- whether a log that the reaction needs is full
+-- the logs' counts as far as the setting has them: of its channel and of its receiver
+abbrev pub countsIn : Setting → LogCounts
+countsIn a = record { messages = λ p. a .«in_messages»; channels = λ c. a .«in_channel» }
+
+-- the logs that the reaction needs, and whether one of them is full
+abbrev pub logsOf : Reaction → Setting → List Log
+logsOf x a = viewReaction (a .channel) (a .receiver) x .logs
+
 abbrev pub full : Reaction → Setting → Bool
-full x a =
-    (x .«channel_log» && leb channelPlaces (a .«in_channel»))
-    || (x .«message_log» && leb messagePlaces (a .«in_messages»))
+full x a = anyFull (countsIn a) (logsOf x a)
 
 -- refusals 10, 14 and 11
 abbrev pub receiveChecks : Reaction → Setting → List Check
@@ -43,9 +49,7 @@ receiveChecks x a =
 
 -- what a body writes, for the line after this one
 abbrev pub bodyWrites : Reaction → Setting → ℕ → ℕ → List Write
-bodyWrites x a line body =
-    appendIf (x .«channel_log») (countCell (line + 1) (channelLog (a .channel))) (a .«in_channel») body
-    ++ appendIf (x .«message_log») (countCell (line + 1) (messageLog (a .receiver))) (a .«in_messages») body
+bodyWrites x a line body = logsWrites (line + 1) (countsIn a) (logsOf x a) body
 
 unfoldable pub wordAfter : Entry → ℕ → ℕ
 wordAfter (Message b t) word = enter word b

@@ -5,8 +5,11 @@ use Prim.Native.Nat.{ℕ, _+_}
 use mathlib.Core.Path.{_≡_, sym, ap, _∙_}
 use Rattle.model.specs.Layout.{messageLog, channelLog, countCell}
 use Rattle.rules.specs.declared.reaction.Reaction.{Reaction}
+use Rattle.rules.specs.Reacting.{viewReaction}
+use Rattle.engine.specs.Receiving.{countsIn}
 use Rattle.engine.proofs.Stores.{spent-then, spent-length}
-use Rattle.engine.proofs.Receptions.{a-bit, both-cost, same-cell, moved, channel-place, message-place}
+use Rattle.engine.proofs.Receptions.{a-bit, both-written, both-cost, same-cell, moved, channel-place}
+use Rattle.engine.proofs.Receptions.{message-place}
 use Rattle.engine.proofs.receive.log.Statement.{statement}
 use Rattle.engine.proofs.receive.log.Tie as tie
 
@@ -69,6 +72,7 @@ mul-result : tie.Need-mul-result
 mul-result c = let x = reaction c in omega (arith, a-bit (x .«channel_log»), a-bit (x .«message_log»))
 
 returns : tie.Need-returns
+unfolding viewReaction
 returns c =
     let y = second c in
     let m = y .before .before in
@@ -77,7 +81,9 @@ returns c =
     let made = moved (a .x .«channel_log») _ _ _ (a .body) (channel-at (f .before .before)) (f .append .ensures) in
     let rest = moved (a .x .«message_log») _ _ _ (a .body) (message-at m) (y .append2 .ensures) in
     let cost = both-cost (a .x .«channel_log») (a .x .«message_log») _ _ _ _ _ in
-    record { store = spent-then made rest .store; needed = sym cost }
+    rw (both-written (countsIn (a .at)) (a .at .channel) (a .at .receiver) (a .line + 1) (a .body)
+    (a .x .«channel_log») (a .x .«message_log»))
+    (record { store = spent-then made rest .store; needed = sym cost })
 
 pub log-spec : {M : Type 1} → statement M
 log-spec =
