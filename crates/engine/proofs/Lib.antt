@@ -8,5 +8,6 @@ pub mod Promises
 pub mod Aborting
 pub mod Clearing
 pub mod Receptions
+pub mod Attempting
 pub mod ReceiveMeets
 pub mod CodeRuns

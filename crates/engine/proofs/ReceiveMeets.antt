@@ -36,7 +36,8 @@ use Rattle.engine.specs.Answers.{Meets, ownResult, Performs}
 use Rattle.engine.specs.Receiving.{countsIn, full, receiveChecks, bodyWrites, wordAfter, unlessRefused}
 use Rattle.engine.specs.Receiving.{answeredWith, Attempts}
 use Rattle.engine.proofs.Lengths.{Lengths}
-use Rattle.engine.proofs.Receptions.{either-full, full-test, both-written, flagged, flags-raised, counted, counts-raised}
+use Rattle.engine.proofs.Receptions.{either-full, full-test, both-written, flagged, flags-raised, counted}
+use Rattle.engine.proofs.Receptions.{counts-raised}
 use Rattle.engine.proofs.Receptions.{received}
 use Rattle.engine.proofs.Views.{same-state}
 

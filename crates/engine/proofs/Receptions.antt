@@ -1,26 +1,19 @@
--- How a receive's parts make up what the definition has: whether a log needed is full, the writes, the counts, the
--- state after it, and the two ways in which an attempt is stopped.
+-- How a receive's parts make up what the definition has: whether a log needed is full, the writes, the counts, and the
+-- state after it.
 use Prim.Native.Nat.{ℕ, _+_, _*_, _<_, _≤_, _%_, _^_}
 use mathlib.Core.Path.{_≡_, refl, sym, ap, subst, _∙_}
 use mathlib.Core.Bool.{Bool, true, false, cond, not, _&&_, _||_, Bool·beq}
 use mathlib.Core.List.{List, _++_}
-use mathlib.Core.Option.{none, some}
 use mir.Val.{boolByte}
-use lib.ListN.{length, getD, set, take}
+use lib.ListN.{length, getD, set}
 use lib.Dec.{leb}
-use borrow.Author.Tests.{lt-ltb, le-ltb, leb-false}
+use borrow.Author.Tests.{leb-false}
 use native.Mathlib.Omega.{arith}
-use native.Mathlib.Nat.{min-eq-left, min-eq-right}
 use Rattle.model.specs.declared.Counts.{Counts}
 use Rattle.model.specs.declared.Flags.{Flags}
 use Rattle.model.specs.declared.Entry.{Entry}
 use Rattle.model.specs.declared.Entry.the-variants.{Message, Marker}
-use Rattle.model.specs.declared.Outcome.{Outcome}
-use Rattle.model.specs.declared.Outcome.the-variants.{Refused, PowerLost}
-use Rattle.model.specs.declared.Refusal.{Refusal}
 use Rattle.model.specs.Notation.{upd}
-use Rattle.model.specs.Check.{firstRefusal}
-use Rattle.model.specs.Channel.{bodyOf}
 use Rattle.model.specs.Layout.{storeCells, slot, processRecord, channelRecord, Log, messageLog, channelLog}
 use Rattle.model.specs.Layout.{messagePlaces, channelPlaces, countCell, entryCell}
 use Rattle.model.specs.State.{GlobalState, Progress, LogCounts, raised, raisedAll, viewProgress, viewCounts}
@@ -28,19 +21,15 @@ use Rattle.model.specs.Change.{withWord, withTag, withChannel, withProgress, wi
 use Rattle.model.specs.Change.{setEntries, enterBody, logicalCheckpoint, close}
 use Rattle.model.specs.Receive.{anyFull}
 use Rattle.model.specs.Receive as receive
-use Rattle.model.specs.Write.{underBudget, writeAll, logWrites, logsWrites}
-use Rattle.model.specs.Step.{react, quietly, receivedOutcome}
-use Rattle.model.specs.Outcome.{refused, refusalNumber, saidBy, accepted}
-use Rattle.model.proofs.laws.Effects.{received-accepted}
+use Rattle.model.specs.Write.{logWrites, logsWrites}
+use Rattle.model.specs.Step.{react}
 use Rattle.model.proofs.laws.Tests.{true-is-not-false, or-left, or-true, or-false}
 use Rattle.model.proofs.laws.Functions.{upd-unchanged, seen-set}
 use Rattle.rules.specs.declared.reaction.Reaction.{Reaction}
 use Rattle.rules.specs.Reacting.{logIf, viewReaction}
 use Rattle.engine.specs.declared.receive.Setting.{Setting}
 use Rattle.engine.specs.Spent.{Spent, appendIf}
-use Rattle.engine.specs.Receiving.{InArrays, countsIn, full, receiveChecks, bodyWrites, wordAfter, progressAfter}
-use Rattle.engine.specs.Receiving.{unlessRefused, Attempts}
-use Rattle.engine.proofs.Promises.{unbudgeted}
+use Rattle.engine.specs.Receiving.{InArrays, countsIn, full, wordAfter, progressAfter}
 use Rattle.engine.proofs.Views.{same-state}
 
 pub a-bit : (t : Bool) → boolByte t ≤ 1
@@ -262,39 +251,3 @@ received c r s x e es =
     ap (λ (t : GlobalState). enterBody r e (setEntries c es t))
     (reacts c r (withCounts (raisedAll (x .logs) (s .counts)) s) (x .logicalFirst) (x .closes))
     ∙ word-entered c r _ e
-
--- The three ways in which an attempt goes.
-module _ (x : Reaction) (a : Setting) (e : Entry) (line : ℕ) (before : List ℕ) (budget : ℕ) where
-  pub attempt-refused : (n : Refusal) → firstRefusal (receiveChecks x a) ≡ some (refusalNumber n)
-      → Attempts x a e line before budget (record { received = false; outcome = Refused n; made = 0 }) before
-  unfolding unlessRefused quietly accepted
-  attempt-refused n h =
-      record {
-        answered = λ s next. rw h (unbudgeted budget s before (quietly (refused (refusalNumber n)) s) refl);
-        received = refl;
-        passed = λ f. true-is-not-false f refl;
-      }
-
-  module _ (h : firstRefusal (receiveChecks x a) ≡ none) (after : List ℕ)
-      (written : after ≡ writeAll before (take budget (bodyWrites x a line (bodyOf e)))) where
-    pub attempt-lost : budget < length (bodyWrites x a line (bodyOf e))
-        → Attempts x a e line before budget (record { received = false; outcome = PowerLost; made = budget }) after
-    unfolding unlessRefused underBudget accepted
-    attempt-lost l =
-        let k : budget ≤ length (bodyWrites x a line (bodyOf e)) = omega arith in
-        record {
-          answered = λ s next. rw (h, written, lt-ltb budget _ l, min-eq-left k);
-          received = refl;
-          passed = λ f. h;
-        }
-
-    pub attempt-done : length (bodyWrites x a line (bodyOf e)) ≤ budget → (o : Outcome) → saidBy o ≡ receivedOutcome e
-        → (n : ℕ) → n ≡ length (bodyWrites x a line (bodyOf e))
-        → Attempts x a e line before budget (record { received = true; outcome = o; made = n }) after
-    unfolding unlessRefused underBudget
-    attempt-done l o p n q =
-        record {
-          answered = λ s next. rw (h, written, p, q, le-ltb budget _ l, min-eq-right l);
-          received = rw p (received-accepted e);
-          passed = λ f. h;
-        }

@@ -11,7 +11,7 @@ use Rattle.model.specs.Check.{firstRefusal}
 use Rattle.model.specs.Outcome.{refusalOf}
 use Rattle.model.proofs.laws.Passing.{passed}
 use Rattle.engine.specs.Receiving.{receiveChecks, bodyWrites}
-use Rattle.engine.proofs.Receptions.{attempt-refused, attempt-lost, attempt-done}
+use Rattle.engine.proofs.Attempting.{attempt-refused, attempt-lost, attempt-done}
 use Rattle.engine.proofs.receive.attempt.Statement.{statement}
 use Rattle.engine.proofs.receive.attempt.Tie as tie
 
