@@ -1,5 +1,5 @@
 -- What `head` and `drill` print, and what it means to append it to a buffer.
 pub mod Text
-pub mod Bounds
+pub mod TextBytes
 pub mod Appends
 pub mod Examples

@@ -14,8 +14,8 @@ ghost use Rattle.model.specs.Channel.{entries, bodies};
 ghost use Rattle.model.specs.Outcome.{refusalNumber, saidBy};
 ghost use Rattle.model.specs.Outcome as says;
 ghost use Rattle.report.specs.Appends.{Appends};
-ghost use Rattle.report.specs.Bounds.{numberBytes, valueBytes, saidBytes, lineBytes, namedBytes};
-ghost use Rattle.report.specs.Bounds.{planRefusedBytes, processBytes, channelBytes, cellBytes};
+ghost use Rattle.report.specs.TextBytes.{numberBytes, valueBytes, saidBytes, lineBytes, namedBytes};
+ghost use Rattle.report.specs.TextBytes.{planRefusedBytes, processBytes, channelBytes, cellBytes};
 ghost use Rattle.report.specs.Text.{chars, decimal, values, named, saidText, saidLine};
 ghost use Rattle.report.specs.Text.{planRefusedText, processText, channelText, cellText};
 

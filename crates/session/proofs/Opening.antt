@@ -23,7 +23,7 @@ use Rattle.model.proofs.laws.Calls.{initialize-refusal, refused-leaves}
 use Rattle.model.proofs.laws.TopologyLaws.{SizesFit}
 use Rattle.recovery.specs.Starts.{Starts}
 use Rattle.report.specs.Appends.{Appends}
-use Rattle.report.specs.Bounds.{planRefusedBytes, processBytes, channelBytes, cellBytes}
+use Rattle.report.specs.TextBytes.{planRefusedBytes, processBytes, channelBytes, cellBytes}
 use Rattle.report.specs.Text.{planRefusedText, outputText}
 use Rattle.report.proofs.Appending.{_then_, at-most}
 use Rattle.session.specs.Drill.{startStore, changedText, drillText}

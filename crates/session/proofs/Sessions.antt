@@ -15,7 +15,7 @@ use Rattle.model.specs.State.{GlobalState, view}
 use Rattle.model.specs.Program.{BudgetSource, Request, Served, Session, readRequest, readingThen, readAll, serve}
 use Rattle.model.specs.Program.{lineThen, brokenLine, session, sessionFrom}
 use Rattle.report.specs.Appends.{Appends}
-use Rattle.report.specs.Bounds.{lineBytes}
+use Rattle.report.specs.TextBytes.{lineBytes}
 use Rattle.report.specs.Text.{saidLine, linesText}
 use Rattle.report.proofs.Appending.{nothing, _then_, at-most}
 use Rattle.session.specs.declared.serve.Turn.{Turn}

@@ -16,7 +16,7 @@ use Rattle.model.specs.Program.{serve, ofAnswer, ofStartup}
 use Rattle.engine.specs.Answers.{Answers}
 use Rattle.recovery.specs.Starts.{Starts}
 use Rattle.report.specs.Appends.{Appends}
-use Rattle.report.specs.Bounds.{lineBytes}
+use Rattle.report.specs.TextBytes.{lineBytes}
 use Rattle.report.specs.Text.{saidLine}
 use Rattle.session.specs.declared.serve.Turn.{Turn}
 use Rattle.session.specs.Serving.{served, Serves}

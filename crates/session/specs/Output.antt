@@ -11,7 +11,7 @@ use Rattle.model.specs.Channel.{bodies}
 use Rattle.model.specs.Layout.{storeCells}
 use Rattle.model.specs.Program.{Played, inputBytes, shapeRefusal, head}
 use Rattle.report.specs.Appends.{Appends}
-use Rattle.report.specs.Bounds.{lineBytes, processBytes, channelBytes, cellBytes}
+use Rattle.report.specs.TextBytes.{lineBytes, processBytes, channelBytes, cellBytes}
 use Rattle.report.specs.Text.{processText, channelText, outputText}
 
 unfoldable pub headText : List ℕ → List ℕ

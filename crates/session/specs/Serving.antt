@@ -7,7 +7,7 @@ use Rattle.model.specs.declared.Topology.{Topology}
 use Rattle.model.specs.State.{GlobalState, view}
 use Rattle.model.specs.Program.{Served, Session, serve}
 use Rattle.report.specs.Appends.{Appends}
-use Rattle.report.specs.Bounds.{lineBytes}
+use Rattle.report.specs.TextBytes.{lineBytes}
 use Rattle.report.specs.Text.{lineText, linesText}
 use Rattle.session.specs.declared.serve.Turn.{Turn}
 use Rattle.session.specs.Output.{requestsBytes}

@@ -5,7 +5,7 @@ ghost use Prim.Native.Nat.{_*_, _<_, _≤_};
 ghost use lib.ListN.{length};
 ghost use Rattle.model.specs.Layout.{storeCells};
 ghost use Rattle.report.specs.Appends.{Appends};
-ghost use Rattle.report.specs.Bounds.{cellBytes};
+ghost use Rattle.report.specs.TextBytes.{cellBytes};
 ghost use Rattle.session.specs.Drill.{startCell, startStore, changedText};
 
 // 2,654,435,761 × i modulo 2^32.

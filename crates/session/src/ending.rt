@@ -8,7 +8,7 @@ ghost use Rattle.model.specs.Topology.{processLimit, channelLimit};
 ghost use Rattle.model.specs.Channel.{entries};
 ghost use Rattle.model.specs.State.{emptyChannel};
 ghost use Rattle.report.specs.Appends.{Appends};
-ghost use Rattle.report.specs.Bounds.{processBytes, channelBytes};
+ghost use Rattle.report.specs.TextBytes.{processBytes, channelBytes};
 ghost use Rattle.session.specs.Output.{processesText, channelsText};
 
 // The first n processes.

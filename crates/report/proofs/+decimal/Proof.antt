@@ -9,7 +9,7 @@ use borrow.Fn.Kinds.{In}
 use borrow.Fn.PlainCycle.{Measures, is, falls, and}
 use Rattle.report.specs.Text.{decimal}
 use Rattle.report.specs.Appends.{Appends}
-use Rattle.report.specs.Bounds.{numberBytes}
+use Rattle.report.specs.TextBytes.{numberBytes}
 use Rattle.report.proofs.Appending.{nothing, _then_, appended-length, of-length}
 use Rattle.report.proofs.Texts.{decimal-one, decimal-more, decimal-length}
 use Rattle.report.proofs.decimal.Reads as reads

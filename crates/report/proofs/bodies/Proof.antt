@@ -11,7 +11,7 @@ use Rattle.model.specs.Notation.{tabulate}
 use Rattle.model.specs.Channel.{entries, bodies}
 use Rattle.report.specs.Text.{values}
 use Rattle.report.specs.Appends.{Appends}
-use Rattle.report.specs.Bounds.{valueBytes}
+use Rattle.report.specs.TextBytes.{valueBytes}
 use Rattle.report.proofs.Appending.{nothing, _then_, appended-length, at-most}
 use Rattle.report.proofs.Texts.{values-append}
 use Rattle.model.proofs.laws.ChannelLaws.{bodiesBelow, message-more, marker-more}

@@ -6,7 +6,7 @@ use Prim.Native.Nat.{_-_}
 use mathlib.Core.Path.{_∙_, sym}
 use mathlib.Core.Logic.{⊎-elim}
 use Rattle.model.specs.Layout.{storeCells}
-use Rattle.report.specs.Bounds.{cellBytes}
+use Rattle.report.specs.TextBytes.{cellBytes}
 use Rattle.report.proofs.Appending.{nothing, at-most}
 use Rattle.session.specs.Drill.{changedLine, changedText}
 use Rattle.session.proofs.Lines.{Appended, none-appended, one-appended, all-appended, kept-length}

@@ -11,7 +11,7 @@ use Rattle.model.specs.Channel.{entries, bodies}
 use Rattle.model.specs.State.{emptyChannel}
 use Rattle.model.proofs.laws.Functions.{getD-within}
 use Rattle.report.specs.Appends.{Appends}
-use Rattle.report.specs.Bounds.{channelBytes}
+use Rattle.report.specs.TextBytes.{channelBytes}
 use Rattle.report.specs.Text.{channelText}
 use Rattle.report.proofs.Appending.{at-most}
 use Rattle.session.proofs.Lines.{Appended, none-appended, one-appended, all-appended, kept-length}

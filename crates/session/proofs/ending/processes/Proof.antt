@@ -3,7 +3,7 @@ use borrow.Author.Needs.{needs}
 use native.Mathlib.Omega.{arith}
 use Prim.Native.Nat.{_-_}
 use lib.ListN.{getD}
-use Rattle.report.specs.Bounds.{processBytes}
+use Rattle.report.specs.TextBytes.{processBytes}
 use Rattle.report.specs.Text.{processText}
 use Rattle.report.proofs.Appending.{at-most}
 use Rattle.session.proofs.Lines.{Appended, none-appended, one-appended, all-appended, kept-length}
