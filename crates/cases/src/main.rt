@@ -45,7 +45,7 @@ fn number(outcome: Outcome, made: u32) -> u64 {
         Outcome::Done => 100,
         Outcome::Received(body) => 300 + body as u64,
         Outcome::ReceivedMarker => 200,
-        Outcome::Refused(r) => report::number(r) as u64,
+        Outcome::Refused(r) => rules::refusal::number(r) as u64,
         Outcome::PowerLost => 400,
     };
     std::num::wrapping_add_u64(code, 1000 * (made as u64))
@@ -149,7 +149,7 @@ fn marked(phase: Phase, closed: bool) -> State {
 fn start_number(start: Start) -> u64 {
     match start {
         Start::Ready => 100,
-        Start::Refused(r) => report::number(r) as u64,
+        Start::Refused(r) => rules::refusal::number(r) as u64,
     }
 }
 

@@ -6,6 +6,7 @@ use model::Entry;
 use model::Outcome;
 use model::Refusal;
 use rules::channel::entry_at;
+use rules::refusal::number;
 ghost use Prim.Native.Nat.{_+_, _*_};
 ghost use mathlib.Core.Path.{_≡_};
 ghost use mathlib.Core.List.{[], _∷_, _++_};
@@ -80,30 +81,6 @@ fn pair(out: &mut [u8], at: usize, name: &[u8], a: u32, b: u32) -> usize
     let named = bytes(out, at, name);
     let next = value(out, named, a);
     last(out, next, b)
-}
-
-// Document 01's number of a refusal.
-pub fn number(r: Refusal) -> u8
-    ensures { λ n. ⌜ n ≡ refusalNumber r ⌝ }
-{
-    match r {
-        Refusal::ProcessCount => 1,
-        Refusal::ChannelCount => 2,
-        Refusal::UnknownEnd => 3,
-        Refusal::SelfChannel => 4,
-        Refusal::DoubledChannel => 5,
-        Refusal::ShortStore => 6,
-        Refusal::Malformed => 7,
-        Refusal::NoSuch => 8,
-        Refusal::ChannelFull => 9,
-        Refusal::ChannelEmpty => 10,
-        Refusal::LogFull => 11,
-        Refusal::NotNow => 12,
-        Refusal::LastLine => 13,
-        Refusal::MarkerOnClosed => 14,
-        Refusal::Unsound => 15,
-        Refusal::BadCount => 16,
-    }
 }
 
 // A step's outcome, with its value if it has one.

@@ -4,6 +4,7 @@ pub mod fresh;
 pub mod layout;
 pub mod phase;
 pub mod reaction;
+pub mod refusal;
 pub mod sound;
 pub mod topology;
 pub mod word;

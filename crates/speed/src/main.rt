@@ -77,7 +77,7 @@ fn outcome_code(outcome: Outcome) -> u32 {
         Outcome::Done => 1,
         Outcome::Received(body) => body,
         Outcome::ReceivedMarker => 2,
-        Outcome::Refused(r) => 100 + report::number(r) as u32,
+        Outcome::Refused(r) => 100 + rules::refusal::number(r) as u32,
         Outcome::PowerLost => 4,
     }
 }
