@@ -1,5 +1,4 @@
 -- Laws that the proofs of several functions cite.
-pub mod Plans
 pub mod Requests
 pub mod Turns
 pub mod Sessions

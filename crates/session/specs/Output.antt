@@ -5,11 +5,12 @@ use mathlib.Core.List.{List}
 use mathlib.Core.Option.{none}
 use lib.ListN.{length, take, drop}
 use Rattle.model.specs.declared.Entry.{Entry}
+use Rattle.model.specs.declared.Topology.{Topology}
 use Rattle.model.specs.Notation.{concatBelow}
-use Rattle.model.specs.Topology.{processLimit, channelLimit}
+use Rattle.model.specs.Topology.{processLimit, channelLimit, topologyRefusal}
 use Rattle.model.specs.Channel.{bodies}
 use Rattle.model.specs.Layout.{storeCells}
-use Rattle.model.specs.Program.{Played, inputBytes, shapeRefusal, head}
+use Rattle.model.specs.Program.{BudgetSource, Session, Played, inputBytes, sessionOf, report, head}
 use Rattle.report.specs.Appends.{Appends}
 use Rattle.report.specs.TextBytes.{lineBytes, processBytes, channelBytes, cellBytes}
 use Rattle.report.specs.Text.{processText, channelText, outputText}
@@ -37,11 +38,16 @@ processesText n word = concatBelow n (λ p. processText p (word p))
 abbrev pub channelsText : ℕ → (ℕ → List Entry) → List ℕ
 channelsText n channel = concatBelow n (λ c. channelText c (bodies (channel c)))
 
--- a plan as far as its sizes tell, in no more bytes than are taken, and a store that is long enough
-pub record MayRun (bytes store : List ℕ) : Type 0 where
-  pub shaped : shapeRefusal bytes ≡ none
-  pub taken : length bytes ≤ inputBytes
+-- a plan that passes its checks, no more bytes after it than are taken, and a store that is long enough
+pub record MayRun (T : Topology) (records store : List ℕ) : Type 0 where
+  pub accepted : topologyRefusal T ≡ none
+  pub taken : length records ≤ inputBytes
   pub cells : storeCells ≤ length store
+
+-- what is played of such a plan
+abbrev pub planPlayed : BudgetSource → Topology → List ℕ → List ℕ → Played
+planPlayed source T store records =
+    let s : Session = sessionOf source T store records in record { output = report T s; store = s .store }
 
 -- The output is in the buffer from its start on, and the store is left so.
 pub record Plays (x : Played) (before after : List ℕ) (r : ℕ) (left : List ℕ) : Type 0 where

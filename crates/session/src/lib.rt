@@ -2,7 +2,6 @@
 // differ only in where a call's budget comes from, in the store at first, and in what is printed of it.
 mod cells;
 mod ending;
-mod plan;
 mod play;
 mod request;
 mod serve;

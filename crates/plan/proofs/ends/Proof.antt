@@ -1,12 +1,12 @@
--- `plan::ends` meets its contract. The loop's invariant: the ends of the first c channels are there, and the others
+-- `ends` meets its contract. The loop's invariant: the ends of the first c channels are there, and the others
 -- are 0.
 use borrow.Author.Needs.{needs}
 use native.Mathlib.Omega.{arith}
 use Prim.Native.Nat.{_+_, _*_, _-_, _<_}
 use lib.ListN.{length}
-use Rattle.session.proofs.Plans.{Whole, whole, Ends, no-ends, one-end, all-ends}
-use Rattle.session.proofs.plan.ends.Statement.{statement}
-use Rattle.session.proofs.plan.ends.Tie as tie
+use Rattle.plan.proofs.Plans.{Whole, whole, Ends, no-ends, one-end, all-ends}
+use Rattle.plan.proofs.ends.Statement.{statement}
+use Rattle.plan.proofs.ends.Tie as tie
 
 abbrev Inv-loop : tie.InvT-loop
 Inv-loop bytes first channels r₀ c₀ r c = Ends bytes first r c

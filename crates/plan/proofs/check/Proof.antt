@@ -1,19 +1,18 @@
--- `plan::check` meets its contract: each return rewrites the definition's tests by those that led there.
+-- `check` meets its contract: each return rewrites the definition's tests by those that led there.
 use borrow.Author.Needs.{needs}
 use borrow.Author.Tests.{lt-ltb, le-ltb}
 use mathlib.Core.Path.{_≡_, sym, ap, _∙_}
 use mathlib.Core.Bool.{false}
 use mathlib.Core.Option.{none}
-use native.Mathlib.Omega.{arith}
 use lib.ListN.{length, getD}
 use lib.Dec.{ltb}
 use Rattle.model.specs.Notation.{orElse}
 use Rattle.model.specs.Check.{firstRefusal}
 use Rattle.model.specs.Outcome.{refusalOf}
 use Rattle.model.specs.Topology.{sizeRefusal}
-use Rattle.model.specs.Program.{planLength, shapeRefusal}
-use Rattle.session.proofs.plan.check.Statement.{statement}
-use Rattle.session.proofs.plan.check.Tie as tie
+use Rattle.model.specs.Program.{shapeRefusal}
+use Rattle.plan.proofs.check.Statement.{statement}
+use Rattle.plan.proofs.check.Tie as tie
 
 short : tie.Need-returns
 unfolding refusalOf shapeRefusal orElse firstRefusal
@@ -40,21 +39,21 @@ unfolding refusalOf
 fit c = sym (c .before .before .sizes .ensures) ∙ ap refusalOf (c .enum-told2 .given .1)
 
 broken : tie.Need-returns-3
-unfolding refusalOf shapeRefusal orElse firstRefusal planLength
+unfolding refusalOf shapeRefusal orElse firstRefusal
 broken c =
-    let k = c .before in
-    rw (two (k .before .before), fit k, lt-ltb _ _ (c .if2 .taken))
+    let p = c .before in
+    let k = p .before in
+    rw (two (k .before .before), fit k, ← p .plan-length .ensures, lt-ltb _ _ (c .if2 .taken))
 
 passes : tie.Need-returns-4
-unfolding refusalOf shapeRefusal orElse firstRefusal planLength
+unfolding refusalOf shapeRefusal orElse firstRefusal
 passes c =
-    let k = c .before in
-    rw (two (k .before .before), fit k, le-ltb _ _ (c .if2 .left))
+    let p = c .before in
+    let k = p .before in
+    rw (two (k .before .before), fit k, ← p .plan-length .ensures, le-ltb _ _ (c .if2 .left))
 
 pub check-spec : {M : Type 1} → statement M
 check-spec =
     tie.close
     (tie.spec short (λ c. search needs) (λ c. search needs) (λ c κs. search needs) (λ c. search needs) refused
-    (λ c. search needs) (λ c. omega (arith, c .before .before .before .shared-slice-known3 .given 1))
-    (λ c. omega (arith, c .before .before .before .shared-slice-known3 .given 1))
-    (λ c. omega (arith, c .before .before .before .shared-slice-known3 .given 1)) broken passes)
+    (λ c. search needs) (λ c κs. search needs) broken passes)

@@ -1,10 +1,10 @@
--- `plan::topology` meets its contract.
+-- `topology` meets its contract.
 use borrow.Author.Needs.{needs}
 use native.Mathlib.Omega.{arith}
 use Rattle.model.specs.Program.{planOf}
-use Rattle.session.proofs.Plans.{Whole, whole}
-use Rattle.session.proofs.plan.topology.Statement.{statement}
-use Rattle.session.proofs.plan.topology.Tie as tie
+use Rattle.plan.proofs.Plans.{Whole, whole}
+use Rattle.plan.proofs.topology.Statement.{statement}
+use Rattle.plan.proofs.topology.Tie as tie
 
 known : (c : tie.Start) → Whole (c .args .bytes .now)
 known c = whole (c .args .bytes .now) (c .pre)

@@ -1,0 +1,138 @@
+// The plan that an input begins with: which of the input's bytes are taken, the plan read and checked, and the bytes
+// after it. Equal to the definitions of model's specs/Program.antt.
+use model::CHANNELS;
+use model::Refusal;
+use model::Topology;
+use model::Verdict;
+ghost use mathlib.Core.Path.{_≡_};
+ghost use mathlib.Core.Option.{none};
+ghost use Prim.Native.Nat.{_≤_};
+ghost use lib.ListN.{take, drop};
+ghost use Rattle.model.specs.Notation.{tabulate};
+ghost use Rattle.model.specs.Outcome.{refusalNumber, refusalOf};
+ghost use Rattle.model.specs.Topology.{channelLimit};
+ghost use Rattle.model.specs.Program.{inputBytes, endByte, planOf, planLength, shapeRefusal};
+ghost use Rattle.plan.specs.Reading.{saysOf, refusedPlan, planSays};
+
+const INPUT_BYTES: usize = 65536;
+
+// How many bytes a plan has before those of its channels: the numbers of processes and of channels.
+const SIZES: usize = 2;
+
+// What bytes begin with: whether their plan passes its checks, and the plan; where it is refused, the blank one. (An
+// enum can't hold the arrays of a topology.)
+pub struct Reading {
+    pub verdict: Verdict,
+    pub topology: Topology,
+}
+
+// The first 65,536 bytes and no more.
+pub fn taken(input: &[u8]) -> &[u8]
+    ensures { λ r. ⌜ now r ≡ take inputBytes (now (input .entry)) ⌝ }
+{
+    if input.len() < INPUT_BYTES {
+        return input;
+    }
+    &input[..INPUT_BYTES]
+}
+
+// How many bytes the plan has, by its number of channels, which is 0 where the bytes end before it.
+fn plan_length(bytes: &[u8]) -> usize
+    ensures { λ r. ⌜ r ≡ planLength (now (bytes .entry)) ⌝ }
+{
+    if bytes.len() < SIZES {
+        return SIZES;
+    }
+    SIZES + 2 * (bytes[1] as usize)
+}
+
+// Under two bytes 7; 1; 2; wires broken off 7.
+fn check(bytes: &[u8]) -> Verdict
+    ensures { λ r. ⌜ refusalOf r ≡ shapeRefusal (now (bytes .entry)) ⌝ }
+{
+    if bytes.len() < SIZES {
+        return Verdict::Refuse(Refusal::Malformed);
+    }
+    let sizes = rules::topology::sizes(bytes[0], bytes[1]);
+    if let Verdict::Refuse(_) = sizes {
+        return sizes;
+    }
+    if bytes.len() < plan_length(bytes) {
+        return Verdict::Refuse(Refusal::Malformed);
+    }
+    Verdict::Pass
+}
+
+// One end of each channel: the bytes two apart from the one at first on, and 0 past the planned channels.
+fn ends(bytes: &[u8], first: usize) -> [u8; CHANNELS]
+    requires { ⌜ (shapeRefusal (now bytes) ≡ none) × (first ≤ 3) ⌝ }
+    ensures { λ r. ⌜ r ≡ tabulate channelLimit (endByte (now (bytes .entry)) first) ⌝ }
+{
+    let channels = bytes[1] as usize;
+    let mut r = [0; CHANNELS];
+    let mut c: usize = 0;
+    while c < channels {
+        r[c] = bytes[first + 2 * c];
+        c += 1;
+    }
+    r
+}
+
+// Boards, wires, and two bytes per wire: from, to.
+fn topology(bytes: &[u8]) -> Topology
+    requires { ⌜ shapeRefusal (now bytes) ≡ none ⌝ }
+    ensures { λ r. ⌜ r ≡ planOf (now (bytes .entry)) ⌝ }
+{
+    let from = ends(bytes, 2);
+    let to = ends(bytes, 3);
+    Topology {
+        processes: bytes[0],
+        channels: bytes[1],
+        from,
+        to,
+    }
+}
+
+// A refusal, with the blank plan: no process, no channel.
+fn refused(refusal: Refusal) -> Reading
+    ensures { λ r. ⌜ saysOf r ≡ refusedPlan (refusalNumber refusal) ⌝ }
+{
+    let topology = Topology {
+        processes: 0,
+        channels: 0,
+        from: [0; CHANNELS],
+        to: [0; CHANNELS],
+    };
+    Reading {
+        verdict: Verdict::Refuse(refusal),
+        topology,
+    }
+}
+
+// The plan that the bytes begin with, or the refusal of its first check that fails.
+pub fn read(bytes: &[u8]) -> Reading
+    ensures { λ r. ⌜ saysOf r ≡ planSays (now (bytes .entry)) ⌝ }
+{
+    if let Verdict::Refuse(r) = check(bytes) {
+        return refused(r);
+    }
+    let topology = topology(bytes);
+    match rules::topology::check(topology) {
+        Verdict::Refuse(r) => refused(r),
+        Verdict::Pass => Reading {
+            verdict: Verdict::Pass,
+            topology,
+        },
+    }
+}
+
+// The bytes after the plan: none where they end within it.
+pub fn rest(bytes: &[u8]) -> &[u8]
+    ensures { λ r. ⌜ now r ≡ drop (planLength (now (bytes .entry))) (now (bytes .entry)) ⌝ }
+{
+    let next = plan_length(bytes);
+    if bytes.len() < next {
+        return &bytes[..0];
+    }
+    &bytes[next..]
+}
