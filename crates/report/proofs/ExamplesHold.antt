@@ -19,6 +19,7 @@ use Rattle.model.specs.Record as records
 use Rattle.model.specs.Program as program
 use Rattle.model.specs.Cases as cases
 use Rattle.report.specs.Text as text
+use Rattle.report.specs.Hex as hex
 use Rattle.report.specs.Examples as examples
 
 pub examples-hold : map (λ (e : examples.Example). e .got) examples.examples
@@ -58,5 +59,6 @@ unfolding
     program.playedOf program.played program.head
     cases.input
     text.digits text.decimal text.values text.saidName text.saidText text.lineText text.linesText text.outputText
+    hex.hexDigit hex.spacedBytes hex.hexBytes
     examples.lines examples.examples
 examples-hold = refl

@@ -1,4 +1,5 @@
 -- Laws that the proofs of several functions cite.
 pub mod Appending
 pub mod Texts
+pub mod HexTexts
 pub mod ExamplesHold

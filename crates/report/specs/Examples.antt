@@ -1,5 +1,5 @@
--- Document 01's listing, and a line of each kind that it has none of, as one table: what the definitions give, and the
--- text.
+-- Document 01's listing, a line of each kind that it has none of, and a reduced list's lines, as one table: what the
+-- definitions give, and the text.
 use Prim.Native.Nat.{ℕ}
 use Prim.Native.String.{String}
 use mathlib.Core.List.{List, [], _∷_, _++_}
@@ -7,6 +7,7 @@ use Rattle.model.specs.Outcome.{refused, cut}
 use Rattle.model.specs.Program.{head}
 use Rattle.model.specs.Cases.{input}
 use Rattle.report.specs.Text.{chars, saidLine, cellText, outputText}
+use Rattle.report.specs.Hex.{planLineText, keptText, lastText, refusedText}
 
 -- each line with its end
 unfoldable pub lines : List String → List ℕ
@@ -50,4 +51,14 @@ examples =
     -- `drill` alone
     ∷ record { got = saidLine 5 cut 3; expected = lines ("5 cut 3" ∷ []) }
     ∷ record { got = cellText 3264 4294967295; expected = lines ("cell 3264 4294967295" ∷ []) }
+    -- `console`: a plan, a kept call and the last one, and where none is shown
+    ∷ record {
+      got =
+          planLineText (0x02 ∷ 0x01 ∷ 0x00 ∷ 0x01 ∷ [])
+          ++ keptText (0x09 ∷ 0x01 ∷ 0x01 ∷ 0x00 ∷ 0x00 ∷ 0x00 ∷ []) 4
+          ++ lastText (0x05 ∷ 0x02 ∷ 0x01 ∷ []) 9 8;
+      expected = lines ("02 01 00 01" ∷ "09 01 01 00 00 00 # 4" ∷ "05 02 01 # 9 refused 8" ∷ []);
+    }
+    ∷ record { got = keptText (0xFA ∷ 0x9C ∷ []) 10; expected = lines ("FA 9C # 10" ∷ []) }
+    ∷ record { got = refusedText 17; expected = lines ("refused 17" ∷ []) }
     ∷ []

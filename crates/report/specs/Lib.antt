@@ -1,5 +1,6 @@
--- What `head` and `drill` print, and what it means to append it to a buffer.
+-- What `head`, `drill` and `console` print, and what it means to append it to a buffer.
 pub mod Text
+pub mod Hex
 pub mod TextBytes
 pub mod Appends
 pub mod Examples

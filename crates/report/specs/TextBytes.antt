@@ -33,3 +33,23 @@ channelBytes = namedBytes 4 (2 + 255)
 
 abbrev pub cellBytes : ℕ
 cellBytes = namedBytes 4 2
+
+-- so many bytes in hexadecimal: two digits and a space each
+abbrev pub hexBytesBytes : ℕ → ℕ
+hexBytesBytes k = 3 * k
+
+-- a reduced list's lines, with so many bytes shown
+abbrev pub planLineBytes : ℕ → ℕ
+planLineBytes k = hexBytesBytes k + 1
+
+abbrev pub callBytes : ℕ → ℕ
+callBytes k = hexBytesBytes k + 3 + numberBytes
+
+abbrev pub keptBytes : ℕ → ℕ
+keptBytes k = callBytes k + 1
+
+abbrev pub lastBytes : ℕ → ℕ
+lastBytes k = callBytes k + namedBytes 8 1
+
+abbrev pub refusedBytes : ℕ
+refusedBytes = namedBytes 7 1
