@@ -2,6 +2,7 @@ pub mod laws
 pub mod store
 pub mod line
 pub mod RoundTrip
+pub mod Readings
 pub mod InOrder
 pub mod ToldApart
 pub mod CasesHold

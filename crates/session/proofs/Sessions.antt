@@ -1,6 +1,6 @@
 -- Laws of a session from one of its lines on: it ends with the bytes, breaks off at a 7, or goes on after a request.
 -- And what is printed of it.
-use Prim.Native.Nat.{ℕ, zero, suc, _+_, _≤_, _<_}
+use Prim.Native.Nat.{ℕ, _+_, _≤_, _<_}
 use mathlib.Core.Path.{_≡_, refl}
 use mathlib.Core.Bool.{true}
 use mathlib.Core.List.{List, [], _∷_, append-nil}
@@ -9,7 +9,6 @@ use lib.ListN.{length}
 use native.Mathlib.Omega.{arith}
 use Rattle.model.specs.declared.Topology.{Topology}
 use Rattle.model.specs.Outcome.{refused}
-use Rattle.model.specs.Record as model
 use Rattle.model.specs.Record.{AreBytes}
 use Rattle.model.specs.State.{GlobalState, view}
 use Rattle.model.specs.Program.{BudgetSource, Request, Served, Session, readRequest, readingThen, readAll, serve}
@@ -20,29 +19,7 @@ use Rattle.report.specs.Text.{saidLine, linesText}
 use Rattle.report.proofs.Appending.{nothing, _then_, at-most}
 use Rattle.session.specs.declared.serve.Turn.{Turn}
 use Rattle.session.specs.Serving.{served, Serves, Prints}
-use Rattle.session.proofs.Requests.{request-after, fewer, bytes-after}
-
--- more fuel than there are bytes changes nothing
-fuel : (source : BudgetSource) (f g : ℕ) (bytes : List ℕ) → AreBytes bytes → length bytes ≤ f → length bytes ≤ g
-    → readAll source f bytes ≡ readAll source g bytes
-unfolding readAll readingThen
-fuel source zero zero bytes h lf lg = refl
-fuel source zero (suc g) [] h lf lg = refl
-fuel source zero (suc g) (b ∷ bytes) h lf lg = absurd (omega arith)
-fuel source (suc f) zero [] h lf lg = refl
-fuel source (suc f) zero (b ∷ bytes) h lf lg = absurd (omega arith)
-fuel source (suc f) (suc g) [] h lf lg = refl
-fuel source (suc f) (suc g) (b ∷ bytes) h lf lg =
-    go (readRequest source (b ∷ bytes)) refl (λ rest k a b. fuel source f g rest k a b)
-  where
-    go : (x : model.Reading Request) → readRequest source (b ∷ bytes) ≡ x
-        → ((rest : List ℕ) → AreBytes rest → length rest ≤ f → length rest ≤ g
-        → readAll source f rest ≡ readAll source g rest)
-        → readingThen x (λ rest. readAll source f rest) ≡ readingThen x (λ rest. readAll source g rest)
-    go none e lower = refl
-    go (some r) e lower =
-        let a = request-after source (b ∷ bytes) h (r .0) (r .1) e in
-        rw (lower (r .1) (bytes-after a h) (omega (arith, fewer a)) (omega (arith, fewer a)))
+use Rattle.model.proofs.Readings.{request-after, fewer, bytes-after, fuel}
 
 -- how a session goes on
 module _ (source : BudgetSource) (T : Topology) (n : ℕ) (s : GlobalState) (store : List ℕ) where

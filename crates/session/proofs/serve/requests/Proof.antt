@@ -14,7 +14,8 @@ use Rattle.model.specs.Program.{Request, Session, inputBytes, readRequest, sess
 use Rattle.session.specs.declared.request.BudgetSource.{BudgetSource}
 use Rattle.session.specs.declared.serve.Turn.{Turn}
 use Rattle.session.specs.Request.{sourceOf}
-use Rattle.session.proofs.Requests.{no-request, read-whole, After, request-after, fewer, bytes-after}
+use Rattle.model.proofs.Readings.{After, request-after, fewer, bytes-after}
+use Rattle.session.proofs.Requests.{no-request, read-whole}
 use Rattle.session.proofs.Sessions.{Leads, leads-to-end, leads-to-break, leads-on}
 use Rattle.session.proofs.serve.requests.Statement.{statement}
 use Rattle.session.proofs.serve.requests.Tie as tie
