@@ -1,5 +1,6 @@
 -- Laws that the proofs of several functions cite.
 pub mod Appending
+pub mod Printing
 pub mod Texts
 pub mod HexTexts
 pub mod ExamplesHold

@@ -3,7 +3,7 @@ use Prim.Native.Nat.{ℕ, _+_, _*_, _/_, _≤_}
 use mathlib.Core.Path.{_≡_}
 use mathlib.Core.List.{List}
 use mathlib.Core.Option.{none}
-use lib.ListN.{length, take, drop}
+use lib.ListN.{length}
 use Rattle.model.specs.declared.Entry.{Entry}
 use Rattle.model.specs.declared.Topology.{Topology}
 use Rattle.model.specs.Notation.{concatBelow}
@@ -53,9 +53,3 @@ planPlayed source T store records =
 pub record Plays (x : Played) (before after : List ℕ) (r : ℕ) (left : List ℕ) : Type 0 where
   pub text : Appends playedBytes before 0 (outputText (x .output)) after r
   pub store : left ≡ x .store
-
--- The first r bytes of the buffer are the whole text, and the others are as before.
-pub record WholeText (whole before after : List ℕ) (r : ℕ) : Type 0 where
-  pub count : r ≡ length whole
-  pub text : take r after ≡ whole
-  pub rest : drop r after ≡ drop r before

@@ -10,8 +10,9 @@ use crate::request::BudgetSource;
 use rules::layout::STORE_CELLS;
 ghost use mathlib.Core.Path.{_≡_};
 ghost use lib.ListN.{replicate};
+ghost use Rattle.report.specs.Appends.{WholeText};
 ghost use Rattle.session.specs.Drill.{drillText};
-ghost use Rattle.session.specs.Output.{headText, outputBytes, WholeText};
+ghost use Rattle.session.specs.Output.{headText, outputBytes};
 
 // No output is longer than this: specs/Output.antt has the sum.
 const OUTPUT_BYTES: usize = 1515054;

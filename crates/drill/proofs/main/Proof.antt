@@ -1,6 +1,6 @@
 -- `main` meets its contract: what is written out, the whole text, is a part of the buffer.
 use borrow.Author.Needs.{needs}
-use Rattle.session.proofs.Lines.{written-part}
+use Rattle.report.proofs.Printing.{written-part}
 use Rattle.drill.proofs.main.Statement.{statement}
 use Rattle.drill.proofs.main.Tie as tie
 

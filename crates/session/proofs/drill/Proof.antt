@@ -2,7 +2,7 @@
 use borrow.Author.Needs.{needs}
 use native.Mathlib.Omega.{arith}
 use Rattle.session.proofs.Opening.{drill-played}
-use Rattle.session.proofs.Lines.{whole-text}
+use Rattle.report.proofs.Printing.{whole-text}
 use Rattle.session.proofs.drill.Statement.{statement}
 use Rattle.session.proofs.drill.Tie as tie
 

@@ -9,7 +9,7 @@ use Rattle.model.specs.Layout.{storeCells}
 use Rattle.report.specs.TextBytes.{cellBytes}
 use Rattle.report.proofs.Appending.{nothing, at-most}
 use Rattle.session.specs.Drill.{changedLine, changedText}
-use Rattle.session.proofs.Lines.{Appended, none-appended, one-appended, all-appended, kept-length}
+use Rattle.report.proofs.Printing.{Appended, none-appended, one-appended, all-appended, kept-length}
 use Rattle.session.proofs.Changes.{same-cell, other-cell}
 use Rattle.session.proofs.cells.changed.Statement.{statement}
 use Rattle.session.proofs.cells.changed.Tie as tie

@@ -14,7 +14,7 @@ use Rattle.report.specs.Appends.{Appends}
 use Rattle.report.specs.TextBytes.{channelBytes}
 use Rattle.report.specs.Text.{channelText}
 use Rattle.report.proofs.Appending.{at-most}
-use Rattle.session.proofs.Lines.{Appended, none-appended, one-appended, all-appended, kept-length}
+use Rattle.report.proofs.Printing.{Appended, none-appended, one-appended, all-appended, kept-length}
 use Rattle.session.proofs.ending.channels.Statement.{statement}
 use Rattle.session.proofs.ending.channels.Tie as tie
 

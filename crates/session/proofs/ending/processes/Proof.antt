@@ -6,7 +6,7 @@ use lib.ListN.{getD}
 use Rattle.report.specs.TextBytes.{processBytes}
 use Rattle.report.specs.Text.{processText}
 use Rattle.report.proofs.Appending.{at-most}
-use Rattle.session.proofs.Lines.{Appended, none-appended, one-appended, all-appended, kept-length}
+use Rattle.report.proofs.Printing.{Appended, none-appended, one-appended, all-appended, kept-length}
 use Rattle.session.proofs.ending.processes.Statement.{statement}
 use Rattle.session.proofs.ending.processes.Tie as tie
 
