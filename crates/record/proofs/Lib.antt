@@ -3,3 +3,4 @@ pub mod FieldLaws
 pub mod KindLaws
 pub mod ParseLaws
 pub mod ReadsBack
+pub mod Answered

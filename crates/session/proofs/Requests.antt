@@ -7,7 +7,7 @@ use Rattle.model.specs.declared.Record.{Record}
 use Rattle.model.specs.Record.{Reading}
 use Rattle.model.specs.Program.{BudgetSource, Request, readRequest}
 use Rattle.model.proofs.laws.RecordLaws.{both, same}
-use Rattle.record.specs.Reading.{gives, refuses, answered, remaining}
+use Rattle.record.specs.Reading.{remaining}
 use Rattle.session.specs.declared.request.Budget.the-variants as budget
 use Rattle.session.specs.declared.request.Request.the-variants as request
 use Rattle.session.specs.Request.{budgeted, requested, afterRequest}
@@ -17,11 +17,6 @@ pub no-budget : (x : Reading ℕ) → budgeted x ≡ budget.Malformed → x ≡ 
 unfolding budgeted
 no-budget none e = refl
 no-budget (some r) e = cc
-
-pub no-record : (x : Reading Record) {n : ℕ} → answered x ≡ refuses n → x ≡ none
-unfolding answered
-no-record none e = refl
-no-record (some r) e = cc
 
 pub no-request : (x : Reading Request) → requested x ≡ request.Malformed → x ≡ none
 unfolding requested
@@ -34,11 +29,6 @@ module _ (bytes : List ℕ) where
   unfolding budgeted remaining
   a-budget none e = cc
   a-budget (some (a, rest)) e = cc
-
-  pub a-record : (x : Reading Record) {r : Record} → answered x ≡ gives r → x ≡ some (r, remaining x bytes)
-  unfolding answered remaining
-  a-record none e = cc
-  a-record (some (a, rest)) e = cc
 
   a-request : (x : Reading Request) {r : Record} {b : ℕ} → requested x ≡ request.Read r b
       → x ≡ some (record { content = r; budget = b }, remaining x bytes)

@@ -6,7 +6,8 @@ use Rattle.model.specs.Record.{andThen, readRecord}
 use Rattle.model.specs.Program.{readBudget, readRequest}
 use Rattle.record.specs.Reading.{saysOf, answered}
 use Rattle.session.specs.Request.{sourceOf, requested, afterBudget}
-use Rattle.session.proofs.Requests.{no-budget, a-budget, no-record, a-record}
+use Rattle.record.proofs.Answered.{no-record, a-record}
+use Rattle.session.proofs.Requests.{no-budget, a-budget}
 use Rattle.session.proofs.request.read.Statement.{statement}
 use Rattle.session.proofs.request.read.Tie as tie
 
