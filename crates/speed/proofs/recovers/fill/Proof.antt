@@ -1,20 +1,19 @@
--- The loop's invariant: the store is as long as it was. The measure is how many turns are left.
+-- The loop's invariant: the store is as long as it was. The measure is how many of its cells are left.
 use borrow.Author.Needs.{needs}
 use Prim.Native.Nat.{_-_}
 use mathlib.Core.Path.{_≡_}
 use lib.ListN.{length}
-use Rattle.model.specs.Layout.{storeCells}
-use Rattle.speed.proofs.steps.Statement.{statement}
-use Rattle.speed.proofs.steps.Tie as tie
+use Rattle.speed.proofs.recovers.fill.Statement.{statement}
+use Rattle.speed.proofs.recovers.fill.Tie as tie
 
 abbrev Inv-loop : tie.InvT-loop
-Inv-loop times script store₀ now₀ i₀ store now i = length store ≡ storeCells
+Inv-loop store₀ cells at₀ i₀ store at i = length store ≡ length store₀
 
 abbrev μ-loop : tie.MeasureT-loop
-μ-loop times script store₀ now₀ i₀ store now i = times - i
+μ-loop store₀ cells at₀ i₀ store at i = length store₀ - i
 
-pub steps-spec : {M : Type 1} → statement M
-steps-spec =
+pub fill-spec : {M : Type 1} → statement M
+fill-spec =
     tie.close
     (tie.spec
     Inv-loop
@@ -28,5 +27,4 @@ steps-spec =
     (λ c. search needs)
     (λ c. search needs)
     (λ c. search needs)
-    (λ c κs. search needs)
     (λ c. search needs))

@@ -2,8 +2,8 @@
 use borrow.Author.Needs.{needs}
 use mathlib.Core.Path.{_≡_}
 use lib.ListN.{length}
-use Rattle.speed.proofs.write_all.Statement.{statement}
-use Rattle.speed.proofs.write_all.Tie as tie
+use Rattle.speed.proofs.writes.write_all.Statement.{statement}
+use Rattle.speed.proofs.writes.write_all.Tie as tie
 
 abbrev Inv-loop : tie.InvT-loop
 Inv-loop out₀ script turn at₀ left₀ out at left = length out ≡ length out₀

@@ -4,8 +4,8 @@ use Prim.Native.Nat.{_-_}
 use mathlib.Core.Path.{_≡_}
 use mathlib.Core.Logic.{⊎-elim}
 use lib.ListN.{length, length-set}
-use Rattle.speed.proofs.reads.Statement.{statement}
-use Rattle.speed.proofs.reads.Tie as tie
+use Rattle.speed.proofs.reads.run.Statement.{statement}
+use Rattle.speed.proofs.reads.run.Tie as tie
 
 abbrev Inv-loop : tie.InvT-loop
 Inv-loop times bytes₀ sum₀ i₀ bytes sum i = length bytes ≡ length bytes₀
@@ -19,8 +19,8 @@ loop-again c =
     let l = j .before .before .loop in
     ⊎-elim (λ w. rw (w .1) (simp length-set (l .inv))) (λ w. rw (w .1) (l .inv)) (j .if1 .came)
 
-pub reads-spec : {M : Type 1} → statement M
-reads-spec =
+pub run-spec : {M : Type 1} → statement M
+run-spec =
     tie.close
     (tie.spec
     Inv-loop

@@ -1,31 +1,30 @@
--- The measure is what is left of the 8 places.
+-- The loop's invariant: the buffer is as long as it was. The measure is what is left of the 7 bytes.
 use borrow.Author.Needs.{needs}
 use Prim.Native.Nat.{_-_}
-use Rattle.speed.proofs.channel_sum.Statement.{statement}
-use Rattle.speed.proofs.channel_sum.Tie as tie
+use mathlib.Core.Path.{_≡_}
+use lib.ListN.{length}
+use Rattle.speed.proofs.writes.put.Statement.{statement}
+use Rattle.speed.proofs.writes.put.Tie as tie
 
 abbrev Inv-loop : tie.InvT-loop
-Inv-loop sum c r₀ i₀ r i = Unit
+Inv-loop out₀ at bytes i₀ out i = length out ≡ length out₀
 
 abbrev μ-loop : tie.MeasureT-loop
-μ-loop sum c r₀ i₀ r i = 8 - i
+μ-loop out₀ at bytes i₀ out i = 7 - i
 
-pub channel-sum-spec : {M : Type 1} → statement M
-channel-sum-spec =
+pub put-spec : {M : Type 1} → statement M
+put-spec =
     tie.close
     (tie.spec
     Inv-loop
     μ-loop
     (λ c. search needs)
-    (λ c κs. search needs)
     (λ c. search needs)
     (λ c. search needs)
     (λ c. search needs)
     (λ c. search needs)
-    (λ c κs. search needs)
     (λ c. search needs)
     (λ c. search needs)
-    (λ c κs. search needs)
     (λ c. search needs)
     (λ c. search needs)
     (λ c. search needs)

@@ -1,30 +1,31 @@
--- The loop's invariant: the buffer is as long as it was. The measure is what is left of the 7 bytes.
+-- The measure is what is left of the 8 places.
 use borrow.Author.Needs.{needs}
 use Prim.Native.Nat.{_-_}
-use mathlib.Core.Path.{_≡_}
-use lib.ListN.{length}
-use Rattle.speed.proofs.put.Statement.{statement}
-use Rattle.speed.proofs.put.Tie as tie
+use Rattle.speed.proofs.sum.channel_sum.Statement.{statement}
+use Rattle.speed.proofs.sum.channel_sum.Tie as tie
 
 abbrev Inv-loop : tie.InvT-loop
-Inv-loop out₀ at bytes i₀ out i = length out ≡ length out₀
+Inv-loop sum c r₀ i₀ r i = Unit
 
 abbrev μ-loop : tie.MeasureT-loop
-μ-loop out₀ at bytes i₀ out i = 7 - i
+μ-loop sum c r₀ i₀ r i = 8 - i
 
-pub put-spec : {M : Type 1} → statement M
-put-spec =
+pub channel-sum-spec : {M : Type 1} → statement M
+channel-sum-spec =
     tie.close
     (tie.spec
     Inv-loop
     μ-loop
     (λ c. search needs)
+    (λ c κs. search needs)
     (λ c. search needs)
     (λ c. search needs)
     (λ c. search needs)
     (λ c. search needs)
+    (λ c κs. search needs)
     (λ c. search needs)
     (λ c. search needs)
+    (λ c κs. search needs)
     (λ c. search needs)
     (λ c. search needs)
     (λ c. search needs)

@@ -1,17 +1,17 @@
 -- The measure is what is left of the 64 channels.
 use borrow.Author.Needs.{needs}
 use Prim.Native.Nat.{_-_}
-use Rattle.speed.proofs.whole_sum.Statement.{statement}
-use Rattle.speed.proofs.whole_sum.Tie as tie
+use Rattle.speed.proofs.input.plan.Statement.{statement}
+use Rattle.speed.proofs.input.plan.Tie as tie
 
 abbrev Inv-loop : tie.InvT-loop
-Inv-loop sum store channels r₀ c₀ r c = Unit
+Inv-loop bytes t₀ c₀ t c = Unit
 
 abbrev μ-loop : tie.MeasureT-loop
-μ-loop sum store channels r₀ c₀ r c = 64 - c
+μ-loop bytes t₀ c₀ t c = 64 - c
 
-pub whole-sum-spec : {M : Type 1} → statement M
-whole-sum-spec =
+pub plan-spec : {M : Type 1} → statement M
+plan-spec =
     tie.close
     (tie.spec
     Inv-loop
@@ -22,9 +22,15 @@ whole-sum-spec =
     (λ c. search needs)
     (λ c. search needs)
     (λ c. search needs)
+    (λ c. search needs)
+    (λ c κs. search needs)
+    (λ c. search needs)
+    (λ c. search needs)
+    (λ c. search needs)
+    (λ c. search needs)
     (λ c κs. search needs)
     (λ c. search needs)
     (λ c. search needs)
     (λ c. search needs)
-    (λ c κs. search needs)
+    (λ c. search needs)
     (λ c. search needs))

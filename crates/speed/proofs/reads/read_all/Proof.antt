@@ -11,8 +11,8 @@ use Rattle.record.specs.Reading.{gives, saysOf, answered, remaining}
 use Rattle.record.specs.Written.{bytesOf, written}
 use Rattle.model.proofs.laws.RecordLaws.{later-bytes}
 use Rattle.record.proofs.ReadsBack.{read-writes, read-shortens}
-use Rattle.speed.proofs.read_all.Statement.{statement}
-use Rattle.speed.proofs.read_all.Tie as tie
+use Rattle.speed.proofs.reads.read_all.Statement.{statement}
+use Rattle.speed.proofs.reads.read_all.Tie as tie
 
 abbrev Inv-loop : tie.InvT-loop
 Inv-loop sum bytes r₀ left₀ r left = AreBytes left

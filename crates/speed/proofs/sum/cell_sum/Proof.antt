@@ -2,8 +2,8 @@
 use borrow.Author.Needs.{needs}
 use Prim.Native.Nat.{_-_}
 use lib.ListN.{length}
-use Rattle.speed.proofs.cell_sum.Statement.{statement}
-use Rattle.speed.proofs.cell_sum.Tie as tie
+use Rattle.speed.proofs.sum.cell_sum.Statement.{statement}
+use Rattle.speed.proofs.sum.cell_sum.Tie as tie
 
 abbrev Inv-loop : tie.InvT-loop
 Inv-loop sum store r₀ i₀ r i = Unit

@@ -3,8 +3,8 @@ use borrow.Author.Needs.{needs}
 use native.Mathlib.Omega.{arith}
 use Prim.Native.Nat.{_-_}
 use lib.ListN.{length}
-use Rattle.speed.proofs.byte_sum.Statement.{statement}
-use Rattle.speed.proofs.byte_sum.Tie as tie
+use Rattle.speed.proofs.sum.byte_sum.Statement.{statement}
+use Rattle.speed.proofs.sum.byte_sum.Tie as tie
 
 abbrev Inv-loop : tie.InvT-loop
 Inv-loop sum bytes r₀ i₀ r i = Unit

@@ -2,8 +2,8 @@
 use borrow.Author.Needs.{needs}
 use mathlib.Core.Path.{_≡_}
 use lib.ListN.{length}
-use Rattle.speed.proofs.turn.Statement.{statement}
-use Rattle.speed.proofs.turn.Tie as tie
+use Rattle.speed.proofs.steps.turn.Statement.{statement}
+use Rattle.speed.proofs.steps.turn.Tie as tie
 
 abbrev Inv-loop : tie.InvT-loop
 Inv-loop number script store₀ state₀ sum₀ left₀ store state sum left = length store ≡ length store₀

@@ -4,8 +4,8 @@ use Prim.Native.Nat.{_-_}
 use mathlib.Core.Path.{_≡_}
 use lib.ListN.{length}
 use Rattle.model.specs.Layout.{storeCells}
-use Rattle.speed.proofs.recovers.Statement.{statement}
-use Rattle.speed.proofs.recovers.Tie as tie
+use Rattle.speed.proofs.recovers.run.Statement.{statement}
+use Rattle.speed.proofs.recovers.run.Tie as tie
 
 abbrev Inv-loop : tie.InvT-loop
 Inv-loop topology times cells store₀ state₀ sum₀ i₀ store state sum i = length store ≡ storeCells
@@ -13,8 +13,8 @@ Inv-loop topology times cells store₀ state₀ sum₀ i₀ store state sum i = 
 abbrev μ-loop : tie.MeasureT-loop
 μ-loop topology times cells store₀ state₀ sum₀ i₀ store state sum i = times - i
 
-pub recovers-spec : {M : Type 1} → statement M
-recovers-spec =
+pub run-spec : {M : Type 1} → statement M
+run-spec =
     tie.close
     (tie.spec
     Inv-loop

@@ -1,0 +1,58 @@
+// What the input says: the plan, numbers, the steps of a script. Past its end all is 0.
+use model::Step;
+use model::Topology;
+
+// How many bytes a step of a script has, and where the plan starts.
+pub const SCRIPTED: usize = 6;
+
+pub const PLAN: usize = 5;
+
+pub fn byte(bytes: &[u8], at: usize) -> u8 {
+    if at < bytes.len() { bytes[at] } else { 0 }
+}
+
+// 4 bytes, lowest first.
+pub fn number(bytes: &[u8], at: usize) -> u32 {
+    if bytes.len() < 4 {
+        return 0;
+    }
+    if bytes.len() - 4 < at {
+        return 0;
+    }
+    record::word(bytes[at], bytes[at + 1], bytes[at + 2], bytes[at + 3])
+}
+
+pub fn plan(bytes: &[u8]) -> Topology {
+    let mut t = Topology {
+        processes: byte(bytes, PLAN),
+        channels: byte(bytes, PLAN + 1),
+        from: [0; 64],
+        to: [0; 64],
+    };
+    let mut c: usize = 0;
+    while c < 64 {
+        t.from[c] = byte(bytes, PLAN + 2 + 2 * c);
+        t.to[c] = byte(bytes, PLAN + 3 + 2 * c);
+        c += 1;
+    }
+    t
+}
+
+// The first step of a script; the turn is added to its body.
+pub fn scripted(script: &[u8], turn: u32) -> Step {
+    let index = byte(script, 1);
+    let body = number(script, 2);
+    match byte(script, 0) {
+        1 => Step::Send {
+            channel: index,
+            body: std::num::wrapping_add_u32(body, turn),
+        },
+        2 => Step::Receive { channel: index },
+        3 => Step::Begin,
+        4 => Step::PhysicalCheckpoint { process: index },
+        5 => Step::LogicalCheckpoint { process: index },
+        6 => Step::SendMarker { channel: index },
+        7 => Step::Commit,
+        _ => Step::Abort,
+    }
+}

@@ -1,0 +1,44 @@
+// Work 1: a script's steps, each with full power.
+use crate::input::SCRIPTED;
+use crate::input::scripted;
+use crate::sum::fold;
+use crate::sum::outcome_code;
+use crate::sum::whole_sum;
+use model::Topology;
+use rules::layout::STORE_CELLS;
+
+struct Tally {
+    sum: u32,
+    state: model::State,
+}
+
+fn turn(before: Tally, number: u32, script: &[u8], store: &mut [u32]) -> Tally {
+    let mut state = before.state;
+    let mut sum = before.sum;
+    let mut left = script;
+    while SCRIPTED <= left.len() {
+        let step = scripted(left, number);
+        let answer = engine::step(state, step, store, 4294967295);
+        let outcome = answer.outcome;
+        sum = fold(fold(sum, outcome_code(outcome)), answer.made);
+        state = answer.state;
+        let after = &left[SCRIPTED..];
+        left = after;
+    }
+    Tally { sum, state }
+}
+
+pub fn run(topology: Topology, times: u32, script: &[u8]) -> u32 {
+    let mut store = [0; STORE_CELLS];
+    let started = engine::initialize(topology, &mut store);
+    let state = started.state;
+    let mut now = Tally { sum: 0, state };
+    let mut i: u32 = 0;
+    while i < times {
+        let next = turn(now, i, script, &mut store);
+        now = next;
+        i += 1;
+    }
+    let last = now.state;
+    whole_sum(now.sum, last, &store)
+}
