@@ -1,22 +1,16 @@
 //! The work that is measured, the same for both Rust programs and for crates/speed: the input says which, how often,
 //! over which topology and over what; the checksum is printed.
 
+use crate::engine::Engine;
+use crate::reduce::{reduce, CallList, Found, Reduced};
 use crate::types::*;
 use std::io::Read;
-
-pub trait Engine {
-    fn initialize(t: &Topology, store: &mut [u32]) -> Self;
-    fn step(&mut self, step: Step, store: &mut [u32], budget: u32) -> (Outcome, u32);
-    fn recover(&mut self, t: &Topology, store: &[u32]);
-    fn state(&self) -> &State;
-    fn read(bytes: &mut &[u8]) -> Result<Record, Refusal>;
-    fn write(record: Record, out: &mut [u8; 7]) -> usize;
-}
 
 const CELLS: usize = 3265;
 const STEPS: u8 = 1;
 const RECOVER: u8 = 2;
 const READ: u8 = 3;
+const WRITE: u8 = 4;
 /// A step of a script: its kind, its process or channel, its body.
 const SCRIPTED: usize = 6;
 
@@ -103,7 +97,7 @@ fn recovers<E: Engine>(t: &Topology, times: u32, cells: &[u8]) -> u32 {
     let mut sum = 0;
     for turn in 0..times {
         store[3] = turn;
-        engine.recover(t, &store);
+        let _ = engine.recover(t, &store);
         let s = engine.state();
         sum = fold(fold(sum, s.words[0]), s.channels[63].bodies[7]);
     }
@@ -140,6 +134,32 @@ fn writes<E: Engine>(times: u32, script: &[u8]) -> u32 {
     out.iter().fold(sum, |sum, &b| fold(sum, b as u32))
 }
 
+fn call(b: &[u8], turn: u32) -> Record {
+    match b[0] {
+        9 => Record::Recover,
+        _ => Record::Call(scripted(b, turn)),
+    }
+}
+
+/// Place and number of the first refusal, or the number alone; then the part.
+fn reduced_sum(sum: u32, reduced: &Reduced) -> u32 {
+    let sum = match reduced.found {
+        Found::Failure(place, refusal) => fold(fold(sum, place as u32), refusal as u32),
+        Found::Refused(refusal) => fold(sum, refusal as u32),
+    };
+    let part = &reduced.part;
+    part.places.iter().fold(fold(sum, part.count as u32), |sum, &place| fold(sum, place as u32))
+}
+
+fn reductions<E: Engine>(t: &Topology, times: u32, script: &[u8]) -> u32 {
+    let mut sum = 0;
+    for turn in 0..times {
+        let list = CallList::new(script.chunks_exact(SCRIPTED).map(|b| call(b, turn)));
+        sum = reduced_sum(sum, &reduce::<E>(t, &list));
+    }
+    sum
+}
+
 pub fn run<E: Engine>() {
     let mut input = Vec::new();
     std::io::stdin().read_to_end(&mut input).unwrap();
@@ -160,7 +180,8 @@ pub fn run<E: Engine>() {
         STEPS => steps::<E>(&t, times, rest),
         RECOVER => recovers::<E>(&t, times, rest),
         READ => reads::<E>(times, rest),
-        _ => writes::<E>(times, rest),
+        WRITE => writes::<E>(times, rest),
+        _ => reductions::<E>(&t, times, rest),
     };
     println!("{sum}");
 }

@@ -3,6 +3,8 @@ mod by_value;
 mod by_value_records;
 mod by_value_start;
 mod driver;
+mod engine;
+mod reduce;
 mod rules;
 mod types;
 
@@ -12,7 +14,7 @@ struct Held {
     state: State,
 }
 
-impl driver::Engine for Held {
+impl engine::Engine for Held {
     fn initialize(t: &Topology, store: &mut [u32]) -> Held {
         Held { state: by_value_start::initialize(*t, store).state }
     }
@@ -21,8 +23,10 @@ impl driver::Engine for Held {
         self.state = answer.state;
         (answer.outcome, answer.made)
     }
-    fn recover(&mut self, t: &Topology, store: &[u32]) {
-        self.state = by_value_start::recover(*t, store).state;
+    fn recover(&mut self, t: &Topology, store: &[u32]) -> Result<(), Refusal> {
+        let started = by_value_start::recover(*t, store);
+        self.state = started.state;
+        started.start
     }
     fn state(&self) -> &State {
         &self.state

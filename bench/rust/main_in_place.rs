@@ -1,35 +1,13 @@
 //! The measured work over the engine that changes its state in place.
 mod driver;
+mod engine;
 mod in_place;
+mod in_place_engine;
 mod in_place_records;
+mod reduce;
 mod rules;
 mod types;
 
-use types::*;
-
-impl driver::Engine for State {
-    fn initialize(t: &Topology, store: &mut [u32]) -> State {
-        let mut s = State::idle(*t, 0);
-        let _ = State::initialize(&mut s, t, store);
-        s
-    }
-    fn step(&mut self, step: Step, store: &mut [u32], budget: u32) -> (Outcome, u32) {
-        State::step(self, step, store, budget)
-    }
-    fn recover(&mut self, t: &Topology, store: &[u32]) {
-        let _ = State::recover(self, t, store);
-    }
-    fn state(&self) -> &State {
-        self
-    }
-    fn read(bytes: &mut &[u8]) -> Result<Record, Refusal> {
-        in_place_records::read(bytes)
-    }
-    fn write(record: Record, out: &mut [u8; 7]) -> usize {
-        in_place_records::write(record, out)
-    }
-}
-
 fn main() {
-    driver::run::<State>();
+    driver::run::<types::State>();
 }

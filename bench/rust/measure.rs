@@ -4,13 +4,18 @@
 //!
 //!     measure PROVED IN_PLACE BY_VALUE
 
+mod engine;
 mod in_place;
+mod in_place_engine;
 mod in_place_records;
+mod lists;
+mod reduce;
 mod rules;
 mod stream;
 mod types;
 mod works;
 
+use lists::Reduction;
 use types::*;
 use works::Work;
 
@@ -27,28 +32,37 @@ fn time(programs: &[String], work: &Work) -> Result<[f64; SIDES], String> {
     Ok(std::array::from_fn(|side| works::median(turns.times.iter().map(|turn| turn[side]))))
 }
 
-fn row(work: &Work, values: [f64; SIDES], digits: usize) {
+/// A line of a table: the first columns, then a value for each side and the proved one's ratios to the others.
+fn row(first: &[&str], values: [f64; SIDES], digits: usize) {
     let [proved, in_place, by_value] = values;
     let (to_in_place, to_by_value) = (proved / in_place, proved / by_value);
     println!(
         "| {} | {proved:.digits$} | {in_place:.digits$} | {by_value:.digits$} | {to_in_place:.2} | {to_by_value:.2} |",
-        work.name
+        first.join(" | ")
     );
 }
 
-fn head(what: &str) {
-    println!("\n| {what} | {} | to in place | to by value |", NAMES.join(" | "));
-    println!("|---|---|---|---|---|---|");
+fn head(first: &[&str]) {
+    let columns = [first, &NAMES, &["to in place", "to by value"]].concat();
+    println!("\n| {} |\n|{}", columns.join(" | "), "---|".repeat(columns.len()));
+}
+
+fn instructions(programs: &[String], work: &Work) -> Result<[f64; SIDES], String> {
+    let mut counts = [0.0; SIDES];
+    for (count, program) in counts.iter_mut().zip(programs) {
+        *count = works::instructions(program, work)?;
+    }
+    Ok(counts)
 }
 
 fn print_times(programs: &[String], works: &[Work]) -> Result<(), String> {
-    head("nanoseconds a unit");
+    head(&["nanoseconds a unit"]);
     let mut times = Vec::new();
     for work in works {
         times.push(time(programs, work)?);
-        row(work, times[times.len() - 1], 1);
+        row(&[&work.name], times[times.len() - 1], 1);
     }
-    head("millions of units a second");
+    head(&["millions of units a second"]);
     for (work, ns) in works.iter().zip(&times) {
         let [proved, in_place, by_value] = ns.map(|ns| 1e3 / ns);
         println!("| {} | {proved:.2} | {in_place:.2} | {by_value:.2} | | |", work.name);
@@ -61,13 +75,22 @@ fn print_times(programs: &[String], works: &[Work]) -> Result<(), String> {
 }
 
 fn print_instructions(programs: &[String], works: &[Work]) -> Result<(), String> {
-    head("instructions a unit");
+    head(&["instructions a unit"]);
     for work in works {
-        let mut counts = [0.0; SIDES];
-        for (count, program) in counts.iter_mut().zip(programs) {
-            *count = works::instructions(program, work)?;
-        }
-        row(work, counts, 0);
+        row(&[&work.name], instructions(programs, work)?, 0);
+    }
+    Ok(())
+}
+
+fn print_reductions(programs: &[String], reductions: &[Reduction]) -> Result<(), String> {
+    head(&["microseconds a reduction", "calls kept", "replays"]);
+    for Reduction { work, kept, replays } in reductions {
+        let times = time(programs, work)?.map(|ns| ns / 1e3);
+        row(&[&work.name, &kept.to_string(), &replays.to_string()], times, 0);
+    }
+    head(&["thousands of instructions a reduction"]);
+    for Reduction { work, .. } in reductions {
+        row(&[&work.name], instructions(programs, work)?.map(|count| count / 1e3), 0);
     }
     Ok(())
 }
@@ -76,10 +99,12 @@ fn main() -> Result<(), String> {
     let programs: Vec<String> = std::env::args().skip(1).collect();
     assert_eq!(programs.len(), SIDES, "measure PROVED IN_PLACE BY_VALUE");
     let works = works::works();
+    let reductions = lists::reductions()?;
     print!("Medians of {TURNS} turns. Units: a step, a recover, a record. ");
     println!("All checksums are the same on the three sides.");
     print_times(&programs, &works)?;
     print_instructions(&programs, &works)?;
+    print_reductions(&programs, &reductions)?;
     println!("\nA state has {} bytes.", std::mem::size_of::<State>());
     Ok(())
 }

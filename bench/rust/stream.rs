@@ -38,7 +38,7 @@ struct Walk {
     state: State,
     store: Vec<u32>,
     random: Random,
-    steps: Vec<Step>,
+    steps: Vec<Record>,
 }
 
 impl Walk {
@@ -58,7 +58,7 @@ impl Walk {
         let (outcome, _) = self.state.step(step, &mut self.store, u32::MAX);
         let accepted = !matches!(outcome, Outcome::Refused(_) | Outcome::PowerLost);
         if accepted {
-            self.steps.push(step);
+            self.steps.push(Record::Call(step));
         }
         accepted
     }
@@ -115,7 +115,7 @@ impl Walk {
 }
 
 /// Whole rounds, at least so many steps, after which every channel is empty.
-pub fn rounds(t: &Topology, least: usize) -> Vec<Step> {
+pub fn rounds(t: &Topology, least: usize) -> Vec<Record> {
     let mut walk = Walk::new(t);
     while walk.steps.len() < least {
         walk.round();
@@ -138,37 +138,38 @@ pub fn full_store(t: &Topology) -> Vec<u8> {
     store.iter().flat_map(|cell| cell.to_le_bytes()).collect()
 }
 
-/// Kind, process or channel, and body of a step.
-fn parts(step: Step) -> (u8, u8, u32) {
-    match step {
-        Step::Send { channel, body } => (1, channel, body),
-        Step::Receive { channel } => (2, channel, 0),
-        Step::Begin => (3, 0, 0),
-        Step::PhysicalCheckpoint { process } => (4, process, 0),
-        Step::LogicalCheckpoint { process } => (5, process, 0),
-        Step::SendMarker { channel } => (6, channel, 0),
-        Step::Commit => (7, 0, 0),
-        Step::Abort => (8, 0, 0),
+/// Kind, process or channel, and body of a call.
+fn parts(call: Record) -> (u8, u8, u32) {
+    match call {
+        Record::Call(Step::Send { channel, body }) => (1, channel, body),
+        Record::Call(Step::Receive { channel }) => (2, channel, 0),
+        Record::Call(Step::Begin) => (3, 0, 0),
+        Record::Call(Step::PhysicalCheckpoint { process }) => (4, process, 0),
+        Record::Call(Step::LogicalCheckpoint { process }) => (5, process, 0),
+        Record::Call(Step::SendMarker { channel }) => (6, channel, 0),
+        Record::Call(Step::Commit) => (7, 0, 0),
+        Record::Call(Step::Abort) => (8, 0, 0),
+        Record::Recover => (9, 0, 0),
     }
 }
 
-/// The steps as the programs take a script: six bytes each.
-pub fn script(steps: &[Step]) -> Vec<u8> {
+/// The calls as the programs take a script: six bytes each.
+pub fn script(calls: &[Record]) -> Vec<u8> {
     let mut bytes = Vec::new();
-    for &step in steps {
-        let (kind, index, body) = parts(step);
+    for &call in calls {
+        let (kind, index, body) = parts(call);
         bytes.extend([kind, index]);
         bytes.extend(body.to_le_bytes());
     }
     bytes
 }
 
-/// The steps as records, one after the other.
-pub fn records(steps: &[Step]) -> Vec<u8> {
+/// The calls as records, one after the other.
+pub fn records(calls: &[Record]) -> Vec<u8> {
     let mut bytes = Vec::new();
-    for &step in steps {
+    for &call in calls {
         let mut record = [0; 7];
-        let count = write(Record::Call(step), &mut record);
+        let count = write(call, &mut record);
         bytes.extend(&record[..count]);
     }
     bytes

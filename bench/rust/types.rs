@@ -87,7 +87,7 @@ pub enum Record {
     Recover,
 }
 
-/// Document 01's refusals, by their numbers.
+/// The refusals of documents 01 and 02, by their numbers.
 #[derive(Clone, Copy, PartialEq)]
 pub enum Refusal {
     ProcessCount = 1,
@@ -106,6 +106,8 @@ pub enum Refusal {
     MarkerOnClosed,
     Unsound,
     BadCount,
+    NothingRefused,
+    LongList,
 }
 
 #[derive(Clone, Copy)]

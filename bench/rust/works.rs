@@ -25,7 +25,7 @@ impl Work {
     }
 }
 
-fn work(name: &str, units: usize, times: u32, mode: u8, t: &Topology, data: &[u8]) -> Work {
+pub fn work(name: &str, units: usize, times: u32, mode: u8, t: &Topology, data: &[u8]) -> Work {
     let mut rest = stream::plan_bytes(t);
     rest.extend(data);
     Work { name: name.to_string(), units, times, mode, rest }
@@ -102,9 +102,10 @@ pub fn median(values: impl Iterator<Item = f64>) -> f64 {
     values[values.len() / 2]
 }
 
-/// A program's instructions a unit: what callgrind counts more for three times the work than for once.
+/// A program's instructions a unit: what callgrind counts more for three times the work than for once. A work that is
+/// timed very often is a short one, and is counted a hundred times for once.
 pub fn instructions(program: &str, work: &Work) -> Result<f64, String> {
-    let few = if work.units == 1 { 100 } else { 1 };
+    let few = if work.times < 10_000 { 1 } else { 100 };
     let count = |times| counted(program, &work.input(times));
     Ok((count(3 * few)? - count(few)?) / (2.0 * few as f64 * work.units as f64))
 }

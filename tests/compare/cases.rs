@@ -1,7 +1,8 @@
 //! The cases of document 01, tried on the reference itself, with the refusals
-//! that no input of the programs can bring about.
+//! that no input of the programs can bring about; and what `console` may print.
 
 use crate::directed::{LISTING, LISTING_OUTPUT};
+use crate::verdicts;
 use reference::program::{self, Program, Unwatched};
 use reference::record;
 use reference::state::{taken, Entry, Phase, State};
@@ -13,7 +14,7 @@ type Case = (&'static str, fn() -> bool);
 
 /// Tries every case: how many there are, or the names of those that fail.
 pub fn all() -> Result<usize, Vec<&'static str>> {
-    let cases: [Case; 17] = [
+    let cases: [Case; 20] = [
         ("the listing", listing),
         ("one board gives line 1", one_board),
         ("8th entry passes, 9th send is 9; empty wire is 10", wire_full),
@@ -31,6 +32,9 @@ pub fn all() -> Result<usize, Vec<&'static str>> {
         ("short stores: 6", short_store),
         ("counts over their places: 16", counts_over),
         ("order of refusals", order),
+        ("lines of console", verdicts::lines),
+        ("right answers of console", verdicts::right),
+        ("wrong answers of console", verdicts::wrong),
     ];
     let failed: Vec<_> =
         cases.iter().filter(|(_, holds)| !holds()).map(|(name, _)| *name).collect();

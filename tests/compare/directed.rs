@@ -148,22 +148,22 @@ fn lengths(lists: &mut Vec<List>, program: Program) {
     }
 }
 
-fn pair() -> Topology {
+pub fn pair() -> Topology {
     Topology { processes: 2, channels: vec![(0, 1), (1, 0)] }
 }
 
-fn full(step: Step) -> Call {
+pub fn full(step: Step) -> Call {
     (FULL, Record::Step(step))
 }
 
 /// Copies of every process: the physical phase from begin to end.
-fn copies(processes: usize) -> impl Iterator<Item = Call> {
+pub fn copies(processes: usize) -> impl Iterator<Item = Call> {
     let copy = |process| full(Step::PhysicalCheckpoint { process });
     std::iter::once(full(Step::Begin)).chain((0..processes).map(copy))
 }
 
 /// Marks, markers and receives that end a round, and the commit.
-fn end_round(topology: &Topology, held: usize) -> Vec<Call> {
+pub fn end_round(topology: &Topology, held: usize) -> Vec<Call> {
     let channels = 0..topology.channels.len();
     let marks = (0..topology.processes).map(|process| full(Step::LogicalCheckpoint { process }));
     let receive = |channel| full(Step::Receive { channel });

@@ -51,14 +51,20 @@ fn long(rng: &mut Rng, program: Program) -> Vec<u8> {
     bytes
 }
 
-/// A walk with some bytes changed, lost or put in, mostly late.
+/// A walk with some bytes changed, lost or put in.
 fn damaged(rng: &mut Rng, program: Program) -> Vec<u8> {
     let mut bytes = walk(rng, program);
+    damage(rng, &mut bytes);
+    bytes
+}
+
+/// Changes, loses or puts in some bytes, mostly late ones.
+pub fn damage(rng: &mut Rng, bytes: &mut Vec<u8>) {
     for _ in 0..1 + rng.below(3) {
         let from = if rng.percent(70) { bytes.len() * 3 / 4 } else { 0 };
         let at = from + rng.below(bytes.len() - from);
         if at >= bytes.len() {
-            return bytes;
+            return;
         }
         match rng.below(5) {
             0 | 1 => bytes[at] ^= 1 << rng.below(8),
@@ -67,7 +73,6 @@ fn damaged(rng: &mut Rng, program: Program) -> Vec<u8> {
             _ => bytes.insert(at, rng.pick(&[0, 1, 5, 9, 13, 77]).unwrap()),
         }
     }
-    bytes
 }
 
 /// A walk that ends within a record, or with bytes at random.

@@ -1,25 +1,33 @@
 //! Compares `head` and `drill` with the reference on fixed and random inputs,
-//! byte for byte, and checks demand 3 after every call.
+//! byte for byte, and checks demand 3 after every call. Judges what `console`
+//! prints on others: a line byte for byte, a part by M-100's definition.
 //!
-//!     compare HEAD DRILL [LISTS [SEED [SECONDS]]]
+//!     compare HEAD DRILL CONSOLE [LISTS [SEED [SECONDS]]]
 //!
-//! SECONDS are spent on making a failing input smaller.
+//! A program of which `-` is the name is left out, with its lists. LISTS is the
+//! number of random lists for `head` and `drill`; for each five of them there
+//! are three for `console`. SECONDS are spent on making a failing input smaller.
 
 mod cases;
 mod directed;
+mod judge;
 mod lists;
 mod plans;
+mod questions;
+mod reductions;
 mod rng;
 mod runner;
 mod seen;
 mod shrink;
+mod verdicts;
 mod walk;
 mod watcher;
 
 use lists::List;
+use reference::console::{self, hexadecimal};
 use reference::program::{self, Program, INPUT};
 use seen::Seen;
-use std::path::PathBuf;
+use std::path::{Path, PathBuf};
 use std::process::ExitCode;
 use std::time::{Duration, Instant};
 use watcher::Watcher;
@@ -31,9 +39,11 @@ const SECONDS: u64 = 20;
 /// Lines of an output that are shown of a failing input.
 const SHOWN: usize = 60;
 
+/// The programs to be tried; none where one is left out.
 struct Binaries {
-    head: PathBuf,
-    drill: PathBuf,
+    head: Option<PathBuf>,
+    drill: Option<PathBuf>,
+    console: Option<PathBuf>,
 }
 
 /// What the caller asks for.
@@ -44,32 +54,55 @@ struct Order {
     shrinking: Duration,
 }
 
-/// How an input fails.
+/// How an input fails: what would be right, and what was got; why, where that
+/// doesn't show it.
 struct Failure {
     expected: String,
     got: Result<Vec<u8>, String>,
-    demand: Option<String>,
+    why: Option<String>,
 }
 
 impl Binaries {
+    fn path(&self, program: Program) -> Option<&Path> {
+        let path = match program {
+            Program::Head => &self.head,
+            Program::Drill => &self.drill,
+            Program::Console => &self.console,
+        };
+        path.as_deref()
+    }
+
     /// Runs the reference and the binary on an input.
     fn compare(&self, program: Program, bytes: &[u8], seen: &mut Seen) -> Option<Failure> {
-        let mut watcher = Watcher::new(program, seen);
+        let path = self.path(program)?;
         if bytes.len() > INPUT {
-            watcher.count(("input", "longer than is taken", 0));
+            seen.count(program, ("input", "longer than is taken", 0));
         }
-        let expected = program::run(program, bytes, &mut watcher);
-        let demand = watcher.fault;
-        let path = if program == Program::Head { &self.head } else { &self.drill };
-        let got = runner::run(path, bytes);
-        let same = got.as_ref().is_ok_and(|got| got == expected.as_bytes());
-        (!same || demand.is_some()).then_some(Failure { expected, got, demand })
+        match program {
+            Program::Head | Program::Drill => hold(path, program, bytes, seen),
+            Program::Console => judge(path, bytes, seen),
+        }
     }
 }
 
-fn hexadecimal(bytes: &[u8]) -> String {
-    let digits: Vec<String> = bytes.iter().map(|byte| format!("{byte:02X}")).collect();
-    digits.join(" ")
+/// Byte for byte, with demand 3.
+fn hold(path: &Path, program: Program, bytes: &[u8], seen: &mut Seen) -> Option<Failure> {
+    let mut watcher = Watcher::new(program, seen);
+    let expected = program::run(program, bytes, &mut watcher);
+    let why = watcher.fault;
+    let got = runner::run(path, bytes);
+    let same = got.as_ref().is_ok_and(|got| got == expected.as_bytes());
+    (!same || why.is_some()).then_some(Failure { expected, got, why })
+}
+
+/// By M-100's definition.
+fn judge(path: &Path, bytes: &[u8], seen: &mut Seen) -> Option<Failure> {
+    let got = runner::run(path, bytes);
+    let why = match &got {
+        Ok(got) => Some(judge::judge(bytes, got, seen).err()?),
+        Err(_) => None,
+    };
+    Some(Failure { expected: console::run(bytes), got, why })
 }
 
 /// The first lines of a text.
@@ -104,16 +137,25 @@ fn tell(binaries: &Binaries, list: &List, shrinking: Duration) {
         }
         Err(error) => println!("the binary fails: {error}"),
     }
-    if let Some(demand) = failure.demand {
-        println!("{demand}");
+    if let Some(why) = failure.why {
+        println!("{why}");
     }
+}
+
+/// The random lists of a number, which may have one for `console`.
+fn random(seed: u64, number: u64) -> impl Iterator<Item = List> {
+    let question = (number % 5 < 3).then(|| questions::random(seed, number));
+    std::iter::once(lists::random(seed, number)).chain(question)
 }
 
 /// All lists through both, the many about bytes last; the number of lists, or none where one fails.
 fn compare_all(order: &Order, seen: &mut Seen) -> Option<u64> {
-    let random = (0..order.lists).map(|number| lists::random(order.seed, number));
+    let first = directed::calls().into_iter().chain(reductions::all());
+    let random = (0..order.lists).flat_map(|number| random(order.seed, number));
+    let last = directed::bytes().into_iter().chain(reductions::bytes());
     let mut agree = 0;
-    for list in directed::calls().into_iter().chain(random).chain(directed::bytes()) {
+    let named = |list: &List| order.binaries.path(list.program).is_some();
+    for list in first.chain(random).chain(last).filter(named) {
         if order.binaries.compare(list.program, &list.bytes, seen).is_some() {
             tell(&order.binaries, &list, order.shrinking);
             return None;
@@ -129,23 +171,25 @@ fn arguments() -> Option<Order> {
         Some(text) => text.parse().ok(),
         None => Some(default),
     };
-    let (2..=5, [head, drill, ..]) = (arguments.len(), &arguments[..]) else {
+    let (3..=6, [head, drill, console, ..]) = (arguments.len(), &arguments[..]) else {
         return None;
     };
+    let path = |name: &String| (name != "-").then(|| PathBuf::from(name));
     Some(Order {
-        binaries: Binaries { head: head.into(), drill: drill.into() },
-        lists: number(2, LISTS)?,
-        seed: number(3, SEED)?,
-        shrinking: Duration::from_secs(number(4, SECONDS)?),
+        binaries: Binaries { head: path(head), drill: path(drill), console: path(console) },
+        lists: number(3, LISTS)?,
+        seed: number(4, SEED)?,
+        shrinking: Duration::from_secs(number(5, SECONDS)?),
     })
 }
 
 fn main() -> ExitCode {
     let Some(order) = arguments() else {
-        eprintln!("usage: compare HEAD DRILL [LISTS [SEED [SECONDS]]]");
+        eprintln!("usage: compare HEAD DRILL CONSOLE [LISTS [SEED [SECONDS]]]");
         return ExitCode::from(2);
     };
-    for path in [&order.binaries.head, &order.binaries.drill] {
+    let programs = [Program::Head, Program::Drill, Program::Console];
+    for path in programs.iter().filter_map(|&program| order.binaries.path(program)) {
         if !path.is_file() {
             eprintln!("compare: no program {}", path.display());
             return ExitCode::from(2);
@@ -162,18 +206,16 @@ fn main() -> ExitCode {
     let Some(agree) = compare_all(&order, &mut seen) else {
         return ExitCode::FAILURE;
     };
-    let sights = match seen.report() {
+    let tried = programs.into_iter().filter(|&program| order.binaries.path(program).is_some());
+    let sights = match seen.report(tried) {
         Ok(sights) => sights,
         Err(missing) => {
             println!("compare: {}", missing.join("\ncompare: "));
             return ExitCode::FAILURE;
         }
     };
-    println!(
-        "demand 3 held after {} calls, {} of them past its premise",
-        seen.demands, seen.beyond
-    );
-    println!("{cases} cases of document 01, {sights} sights, {agree} lists");
+    seen.tell_held();
+    println!("{cases} cases of the papers, {sights} sights, {agree} lists");
     println!("passed {}", cases + sights + agree as usize);
     println!("compare: {agree} lists agree");
     ExitCode::SUCCESS

@@ -18,6 +18,9 @@ pub const UNMARKED_LOGS: &str = "marking, equal tags, board log";
 pub const MARKED_PLAIN: &str = "marking, equal tags, no log";
 pub const CHANNEL_LOGS: &str = "marking, different tag, wire log";
 
+/// Takes that log.
+const LOGS: [&str; 3] = [COPIED_LOGS, UNMARKED_LOGS, CHANNEL_LOGS];
+
 /// What 12 was the answer to.
 pub const TWELVES: [&str; 13] = [
     "begin in a round",
@@ -47,6 +50,10 @@ pub struct Seen {
     /// premise doesn't cover.
     pub demands: u64,
     pub beyond: u64,
+    /// Parts of lists that M-100's definition was checked of, and the calls that
+    /// they leave out.
+    pub parts: u64,
+    pub left_out: u64,
 }
 
 impl Seen {
@@ -58,11 +65,20 @@ impl Seen {
         self.counts.get(&(program, sight)).copied().unwrap_or(0)
     }
 
-    /// Prints every count; the number of sights required, or those missing.
-    pub fn report(&self) -> Result<usize, Vec<String>> {
+    /// Prints what was found to hold of calls and of parts.
+    pub fn tell_held(&self) {
+        let (demands, beyond) = (self.demands, self.beyond);
+        println!("demand 3 held after {demands} calls, {beyond} of them past its premise");
+        let (parts, left_out) = (self.parts, self.left_out);
+        println!("M-100's definition held of {parts} parts, which leave out {left_out} calls");
+    }
+
+    /// Prints every count of these programs; the number of sights required, or
+    /// those missing.
+    pub fn report(&self, programs: impl Iterator<Item = Program>) -> Result<usize, Vec<String>> {
         let mut missing = Vec::new();
         let mut required_in_all = 0;
-        for program in [Program::Head, Program::Drill] {
+        for program in programs {
             let required = required(program);
             required_in_all += required.len() + NEVER.len();
             for sight in &required {
@@ -87,7 +103,11 @@ impl Seen {
 }
 
 fn name(program: Program, (group, what, number): Sight) -> String {
-    let program = if program == Program::Head { "head" } else { "drill" };
+    let program = match program {
+        Program::Head => "head",
+        Program::Drill => "drill",
+        Program::Console => "console",
+    };
     match group {
         "plan refused" => format!("{program} {group} {number}"),
         "refused" => format!("{program} {group} {number} ({what})"),
@@ -98,14 +118,31 @@ fn name(program: Program, (group, what, number): Sight) -> String {
 
 /// Everything that a run must see.
 fn required(program: Program) -> Vec<Sight> {
+    let mut sights = refusals();
+    sights.push(("input", "longer than is taken", 0));
+    match program {
+        Program::Head => sights.extend(calls()),
+        Program::Drill => sights.extend(calls().into_iter().chain(cuts())),
+        Program::Console => sights.extend(reductions()),
+    }
+    sights
+}
+
+/// Every refusal of a plan, of bytes, and of a call; for `console` the call is
+/// the first refused one of a list.
+fn refusals() -> Vec<Sight> {
     let mut sights: Vec<Sight> = [1, 2, 3, 4, 5, 7].map(|n| ("plan refused", "", n)).to_vec();
     sights.push(("refused", "record", 7));
     sights.extend(["send", "take", "copy", "mark", "note"].map(|what| ("refused", what, 8)));
     sights.extend(["send", "note"].map(|what| ("refused", what, 9)));
     sights.push(("refused", "take", 10));
-    let logs = [COPIED_LOGS, UNMARKED_LOGS, CHANNEL_LOGS];
-    sights.extend(logs.map(|what| ("refused", what, 11)));
+    sights.extend(LOGS.map(|what| ("refused", what, 11)));
     sights.extend(TWELVES.map(|what| ("refused", what, 12)));
+    sights
+}
+
+/// What accepted calls come to.
+fn calls() -> Vec<Sight> {
     let takes = [
         PLAIN,
         PLAIN_COPYING,
@@ -117,21 +154,35 @@ fn required(program: Program) -> Vec<Sight> {
         MARKED_PLAIN,
         CHANNEL_LOGS,
     ];
-    sights.extend(takes.map(|what| ("take", what, 0)));
+    let mut sights = takes.map(|what| ("take", what, 0)).to_vec();
     let done = ["send", "begin", "copy", "mark", "note", "finish", "give up"];
     sights.extend(done.map(|what| ("done", what, 0)));
     sights.extend(["idle", "copying", "marking"].map(|what| ("restart", what, 0)));
     sights.extend(["board log of 64", "wire log of 8"].map(|what| ("finish with", what, 0)));
     sights.extend(["board log of 64", "wire log of 8"].map(|what| ("restart from", what, 0)));
     sights.extend(["tenth line", "tags 1 at begin"].map(|what| ("round", what, 0)));
-    sights.push(("input", "longer than is taken", 0));
-    if program == Program::Drill {
-        sights.extend((0..80).map(|stores| ("cut", "begin", stores)));
-        sights.extend([("cut", "copy", 0), ("cut", "finish", 0)]);
-        for log in logs {
-            sights.extend([("cut", log, 0), ("cut", log, 1)]);
-        }
-        sights.extend(["restart", "another call"].map(|what| ("after a cut", what, 0)));
-    }
+    sights
+}
+
+/// Lost power, and what comes after it.
+fn cuts() -> Vec<Sight> {
+    let mut sights: Vec<Sight> = (0..80).map(|stores| ("cut", "begin", stores)).collect();
+    sights.extend([("cut", "copy", 0), ("cut", "finish", 0)]);
+    sights.extend(LOGS.into_iter().flat_map(|log| [("cut", log, 0), ("cut", log, 1)]));
+    sights.extend(["restart", "another call"].map(|what| ("after a cut", what, 0)));
+    sights
+}
+
+/// The other lines of `console`, and parts of every size that a list can force.
+fn reductions() -> Vec<Sight> {
+    let sevens = ["no input", "nothing known is asked", "record, after 256"];
+    let mut sights = sevens.map(|what| ("refused", what, 7)).to_vec();
+    sights.extend([("refused", "no call is refused", 17), ("refused", "over 256 calls", 18)]);
+    let sizes = ["1 call", "2 calls", "9 to 31 calls", "32 to 127 calls", "128 calls or more"];
+    sights.extend(sizes.map(|what| ("part of", what, 0)));
+    let kept = ["2 of 256 calls", "all of more than 100 calls"];
+    sights.extend(kept.map(|what| ("kept", what, 0)));
+    let places = ["the 256th call", "a call before the last"];
+    sights.extend(places.map(|what| ("refused at", what, 0)));
     sights
 }

@@ -2,6 +2,7 @@
 //! processes with all that speaks of them, then single bytes.
 
 use crate::walk::{encode, Call};
+use reference::console::REDUCE;
 use reference::program::{read_call, Program};
 use reference::record::Record;
 use reference::steps::Step;
@@ -18,7 +19,8 @@ struct Parts {
 
 impl Parts {
     fn read(program: Program, bytes: &[u8]) -> Option<Parts> {
-        let (topology, mut rest) = Topology::read(bytes).ok()?;
+        let asked: &[u8] = if program == Program::Console { &[REDUCE] } else { &[] };
+        let (topology, mut rest) = Topology::read(bytes.strip_prefix(asked)?).ok()?;
         let mut calls = Vec::new();
         while let Ok((budget, record, remaining)) = read_call(program, rest) {
             calls.push((budget as u32, record));

@@ -3,6 +3,7 @@
 //! and calls at random.
 
 use crate::rng::Rng;
+use reference::console::REDUCE;
 use reference::program::{call, Program};
 use reference::record::{self, Record};
 use reference::state::{Phase, State, CAPACITY};
@@ -34,6 +35,11 @@ impl Style {
         };
         let cuts = rng.pick(&[0, 2, 5, 20, 60]).unwrap();
         Style { weights, cuts, recovers: rng.pick(&[100, 100, 80, 30]).unwrap() }
+    }
+
+    /// Fills logs and channels again and again, and loses no power.
+    pub fn bursting() -> Style {
+        Style { weights: [10, 10, 20, 12, 1, 0, 0], cuts: 0, recovers: 0 }
     }
 }
 
@@ -75,7 +81,7 @@ impl<'a> Walk<'a> {
     /// One call, with a budget that suits it or, at times, one that doesn't.
     fn call(&mut self, record: Record) {
         let budget = match self.program {
-            Program::Head => u32::MAX,
+            Program::Head | Program::Console => u32::MAX,
             Program::Drill => self.budget(record),
         };
         let answer = call(&mut self.state, &mut self.store, record, u64::from(budget));
@@ -250,6 +256,9 @@ impl<'a> Walk<'a> {
 /// The bytes of a whole input.
 pub fn encode(program: Program, topology: &Topology, calls: &[Call]) -> Vec<u8> {
     let mut bytes = topology.write();
+    if program == Program::Console {
+        bytes.insert(0, REDUCE);
+    }
     for &(budget, record) in calls {
         if program == Program::Drill {
             bytes.extend(budget.to_le_bytes());

@@ -133,13 +133,7 @@ impl Watch for Watcher<'_> {
         match answer.outcome {
             Outcome::Done | Outcome::Took(_) | Outcome::Marker => self.count_done(record),
             Outcome::Line(_) => self.count_restart(state, cells),
-            Outcome::Refused(number @ (11 | 12)) => {
-                self.count(("refused", self.rule, u64::from(number)));
-            }
-            Outcome::Refused(number) => {
-                let what = KINDS[kind(record) as usize - 1];
-                self.count(("refused", what, u64::from(number)));
-            }
+            Outcome::Refused(number) => self.count(refusal(self.rule, record, number)),
             Outcome::PowerLost => self.count(("cut", self.rule, answer.stores)),
         }
         if record == Record::Step(Step::Commit) && state.line == 10 {
@@ -149,9 +143,19 @@ impl Watch for Watcher<'_> {
     }
 }
 
+/// What counts as seen where a call is refused: 11 and 12 by the rule that it
+/// falls under, others by its kind.
+pub fn refusal(rule: &'static str, record: Record, number: u8) -> Sight {
+    let what = match number {
+        11 | 12 => rule,
+        _ => KINDS[kind(record) as usize - 1],
+    };
+    ("refused", what, u64::from(number))
+}
+
 /// The rule that a call falls under: for a receive document 01's rule of taking;
 /// for other steps the condition that isn't met, if one isn't.
-fn rule(state: &State, record: Record) -> &'static str {
+pub fn rule(state: &State, record: Record) -> &'static str {
     let Record::Step(step) = record else {
         return "restart";
     };

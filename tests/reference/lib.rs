@@ -1,11 +1,14 @@
-//! An implementation of document 01 in ordinary Rust, written from the paper alone.
-//! The comparison holds the programs `head` and `drill` against it.
+//! An implementation of document 01, and of what document 02 has asked for so
+//! far, in ordinary Rust, written from the papers alone. The comparison holds
+//! the programs `head`, `drill` and `console` against it.
 //!
 //! Names are the field's; each definition says which word of document 01 it is.
 
+pub mod console;
 pub mod history;
 pub mod program;
 pub mod record;
+pub mod reduce;
 pub mod state;
 pub mod steps;
 pub mod store;

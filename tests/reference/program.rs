@@ -1,6 +1,7 @@
 //! The programs `head` (document 01) and `drill` (issue 4, item 4): bytes in,
-//! bytes out.
+//! bytes out. `console` stands in its own file.
 
+use crate::console;
 use crate::record::{self, Record};
 use crate::state::State;
 use crate::steps::{Answer, Outcome};
@@ -18,6 +19,8 @@ pub enum Program {
     Head,
     /// Each record is preceded by its write budget, and the store is printed.
     Drill,
+    /// A byte that says what is asked, then records alone; full power.
+    Console,
 }
 
 /// Looks on while a program runs.
@@ -41,7 +44,7 @@ fn rubbish() -> Vec<u32> {
 /// A call's write budget, the record, and the bytes after it; or 7.
 pub fn read_call(program: Program, bytes: &[u8]) -> Result<(u64, Record, &[u8]), u8> {
     let (budget, bytes) = match program {
-        Program::Head => (u64::MAX, bytes),
+        Program::Head | Program::Console => (u64::MAX, bytes),
         Program::Drill => {
             let (budget, bytes) = bytes.split_first_chunk::<4>().ok_or(7)?;
             (u64::from(u32::from_le_bytes(*budget)), bytes)
@@ -69,8 +72,15 @@ pub fn call(state: &mut State, store: &mut [u32], record: Record, budget: u64) -
     state.step(step, store, budget)
 }
 
-/// The whole output for an input.
+/// The whole output for an input. Nobody looks on while `console` runs.
 pub fn run(program: Program, input: &[u8], watch: &mut dyn Watch) -> String {
+    match program {
+        Program::Head | Program::Drill => run_calls(program, input, watch),
+        Program::Console => console::run(input),
+    }
+}
+
+fn run_calls(program: Program, input: &[u8], watch: &mut dyn Watch) -> String {
     let mut text = String::new();
     let input = &input[..input.len().min(INPUT)];
     let mut store = rubbish();

@@ -1,7 +1,7 @@
-//! Runs the scripts: each case through `drill` and the reference, and those that don't limit the current through `head`
-//! and the reference's `head` too. A line for each case; the last says how many passed.
+//! Runs the scripts: each case through `drill` and the reference, and those that don't limit the current through
+//! `head`, `console` and the reference's own too. A line for each case; the last says how many passed.
 //!
-//!     scripts HEAD DRILL FILE ..
+//!     scripts HEAD DRILL CONSOLE FILE ..
 //!     scripts --wrong FILE ..     tests this runner: each answer, made wrong, has to be found on the reference
 
 mod play;
@@ -29,9 +29,14 @@ fn reference_drill(input: &[u8]) -> Result<String, String> {
     Ok(program::run(Program::Drill, input, &mut Unwatched))
 }
 
-const REFERENCE: [Side; 2] = [
+fn reference_console(input: &[u8]) -> Result<String, String> {
+    Ok(program::run(Program::Console, input, &mut Unwatched))
+}
+
+const REFERENCE: [Side; 3] = [
     Side { name: "the reference of drill", program: Program::Drill, run: &reference_drill },
     Side { name: "the reference of head", program: Program::Head, run: &reference_head },
+    Side { name: "the reference of console", program: Program::Console, run: &reference_console },
 ];
 
 /// Where a case isn't answered as expected, and how: the first such line on each side.
@@ -60,20 +65,22 @@ fn cases(file: &str, text: &str, sides: &[Side]) -> Result<(usize, usize), Strin
 }
 
 /// The cases of the files through the programs and the reference.
-fn play_all(head: &str, drill: &str, files: &[String]) -> Result<(usize, usize), String> {
-    for program in [head, drill] {
-        if !Path::new(program).is_file() {
-            return Err(format!("no program {program}"));
-        }
+fn play_all(programs: [&str; 3], files: &[String]) -> Result<(usize, usize), String> {
+    if let Some(missing) = programs.iter().find(|program| !Path::new(program).is_file()) {
+        return Err(format!("no program {missing}"));
     }
+    let [head, drill, console] = programs;
     let run_head = |input: &[u8]| run(head, input);
     let run_drill = |input: &[u8]| run(drill, input);
-    let [reference_drill, reference_head] = REFERENCE;
+    let run_console = |input: &[u8]| run(console, input);
+    let [reference_drill, reference_head, reference_console] = REFERENCE;
     let sides = [
         Side { name: "drill", program: Program::Drill, run: &run_drill },
         reference_drill,
         Side { name: "head", program: Program::Head, run: &run_head },
         reference_head,
+        Side { name: "console", program: Program::Console, run: &run_console },
+        reference_console,
     ];
     each(files, |file, text| cases(file, text, &sides))
 }
@@ -98,8 +105,10 @@ fn main() -> ExitCode {
         [flag, files @ ..] if flag == "--wrong" => {
             each(files, |file, text| wrong::answers(file, text, &REFERENCE))
         }
-        [head, drill, files @ ..] => play_all(head, drill, files),
-        _ => Err("usage: scripts HEAD DRILL FILE .., or scripts --wrong FILE ..".to_string()),
+        [head, drill, console, files @ ..] => play_all([head, drill, console], files),
+        _ => {
+            Err("usage: scripts HEAD DRILL CONSOLE FILE .., or scripts --wrong FILE ..".to_string())
+        }
     };
     match done {
         Ok((passed, 0)) if passed > 0 => {

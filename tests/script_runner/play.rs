@@ -1,7 +1,9 @@
 //! A script on one side: each call is the last of an input that a program is run on, and its answer the last of the
-//! program's numbered lines; a question is answered by what the program prints at its end.
+//! program's numbered lines; a question is answered by what the program prints at its end. `console` is asked of all
+//! calls so far, and answers nothing else.
 
 use crate::script::{rubbish, Case, Command, Line};
+use reference::console::REDUCE;
 use reference::program::Program;
 use reference::record::{self, Record};
 use reference::steps::Step;
@@ -55,6 +57,23 @@ fn accepted(answer: &str) -> bool {
     !answer.starts_with("refused") && !answer.starts_with("cut")
 }
 
+/// The records of messages that are sent on wire 0 and taken.
+fn messages(n: u32) -> impl Iterator<Item = Vec<u8>> {
+    let message = |body| [Step::Send { channel: 0, body }, Step::Receive { channel: 0 }];
+    (0..n).flat_map(message).map(|step| record::write(Record::Step(step)))
+}
+
+/// What stands in the lines of `console` after the calls' bytes; a line alone as it is.
+fn kept(text: &str) -> String {
+    let calls: Vec<&str> =
+        text.lines().filter_map(|line| Some(line.split_once(" # ")?.1)).collect();
+    if calls.is_empty() {
+        text.trim_end().to_string()
+    } else {
+        calls.join(" ")
+    }
+}
+
 impl Play<'_> {
     fn line(&mut self, line: &Line) -> Result<(), String> {
         let Some(answer) = self.answer(&line.command)? else {
@@ -75,6 +94,7 @@ impl Play<'_> {
         match command {
             Command::Plan(bytes) => self.plan = bytes.clone(),
             Command::Current(stores) => self.current = *stores,
+            _ if self.side.program == Program::Console => return self.question(command),
             Command::Setup => return self.setup().map(Some),
             Command::Call(bytes) => return self.call(bytes).map(Some),
             Command::Deliver(n) => self.deliver(*n)?,
@@ -86,7 +106,19 @@ impl Play<'_> {
                 return Ok(Some(shown(format!("cell {cell}")).unwrap_or(rubbish(*cell))));
             }
             Command::Round if drill => return self.round().map(Some),
-            Command::Cell(_) | Command::Round => (),
+            Command::Cell(_) | Command::Round | Command::Part => (),
+        }
+        Ok(None)
+    }
+
+    /// Adds calls to the question, or asks it.
+    fn question(&mut self, command: &Command) -> Result<Option<String>, String> {
+        match command {
+            Command::Setup => self.input = [&[REDUCE], &self.plan[..]].concat(),
+            Command::Call(bytes) => self.input.extend(bytes),
+            Command::Deliver(n) => self.input.extend(messages(*n).flatten()),
+            Command::Part => return (self.side.run)(&self.input).map(|text| Some(kept(&text))),
+            _ => (),
         }
         Ok(None)
     }
@@ -132,12 +164,10 @@ impl Play<'_> {
     }
 
     fn deliver(&mut self, n: u32) -> Result<(), String> {
-        for body in 0..n {
-            for step in [Step::Send { channel: 0, body }, Step::Receive { channel: 0 }] {
-                let answer = self.call(&record::write(Record::Step(step)))?;
-                if !accepted(&answer) {
-                    return Err(format!("{step:?} to be accepted, but: {answer}"));
-                }
+        for bytes in messages(n) {
+            let answer = self.call(&bytes)?;
+            if !accepted(&answer) {
+                return Err(format!("{bytes:02X?} to be accepted, but: {answer}"));
             }
         }
         Ok(())

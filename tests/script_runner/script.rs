@@ -15,6 +15,7 @@
 //!
 //!     board BOARD · wire WIRE · cell CELL     as the programs print them; a cell not yet stored to is `rubbish`
 //!     round             the phase, and the last line finished
+//!     part              what `console` keeps of the calls so far: their numbers and the refusal, or its line instead
 
 use reference::record::{self, Record};
 use reference::steps::Step;
@@ -30,6 +31,7 @@ pub enum Command {
     Wire(usize),
     Cell(usize),
     Round,
+    Part,
 }
 
 pub struct Line {
@@ -78,7 +80,9 @@ fn read_line(number: usize, text: &str) -> Option<Line> {
     let command = read_command(command)?;
     let expected = match (&command, expected) {
         (Command::Plan(_) | Command::Current(_) | Command::Deliver(_), Some(_)) => return None,
-        (Command::Board(_) | Command::Wire(_) | Command::Round, None) => return None,
+        (Command::Board(_) | Command::Wire(_) | Command::Round | Command::Part, None) => {
+            return None
+        }
         (Command::Cell(cell), Some(value)) if value == "rubbish" => Some(rubbish(*cell)),
         (Command::Cell(_), None) => return None,
         (_, expected) => expected,
@@ -123,6 +127,7 @@ fn read_command(text: &str) -> Option<Command> {
         ("wire", Some(&[wire])) => Command::Wire(wire),
         ("cell", Some(&[cell])) => Command::Cell(cell),
         ("round", Some([])) => Command::Round,
+        ("part", Some([])) => Command::Part,
         _ => return None,
     })
 }

@@ -9,39 +9,23 @@ use lib.ListN.{length, take, drop}
 use borrow.Author.Tests.{le-ltb}
 use native.Mathlib.Omega.{arith}
 use Rattle.model.specs.declared.Topology.{Topology}
-use Rattle.model.specs.declared.Record.{Record}
-use Rattle.model.specs.declared.Record.the-variants as records
 use Rattle.model.specs.Notation.{orElse}
 use Rattle.model.specs.Check.{firstRefusal}
 use Rattle.model.specs.Topology.{topologyRefusal}
 use Rattle.model.specs.Layout.{storeCells}
 use Rattle.model.specs.Start.{initializeRefusal, initialize, recoverSaid, lineOr}
-use Rattle.model.specs.Program.{Request, Line, Session, ofAnswer, ofStartup, serve, lineThen, brokenLine}
+use Rattle.model.specs.Program.{Request, Line, Session, lineThen, brokenLine}
 use Rattle.model.specs.Program.{session, sessionFrom, sessionOf, Readings, readAll, inputBytes}
 use Rattle.model.specs.Program.{planOf, planLength, shapeRefusal, planRefusal}
-use Rattle.model.specs.Run.{Call, call, recovery, World, replyTo, next, run, trace, firstWorld, stateAfter}
-use Rattle.model.specs.Run.{storeAfter}
-use Rattle.model.specs.ProgramRuns.{callWith, callOf, replyLine, replyLines, ToldLines, ProgramsAreRuns}
+use Rattle.model.specs.Run.{Call, call, recovery, World, replyTo, next, run, trace, firstWorld}
+use Rattle.model.specs.ProgramRuns.{callOf, replyLine, replyLines, ToldLines, ProgramsAreRuns}
 use Rattle.model.proofs.laws.Lists.{or-else-none}
 use Rattle.model.proofs.laws.Calls.{initialize-refusal}
+use Rattle.model.proofs.laws.CallLists.{served}
 use Rattle.model.proofs.line.RecoverKept.{topology-accepted}
 use Rattle.model.proofs.Demand3.{InvOf, recovers-in, call-keeps, end-holds}
 
 module _ (T : Topology) where
-  -- a request is served as its call is answered
-  served : (w : World) (budget : ℕ) (content : Record)
-      → let c : Call = callWith budget content in
-      serve T (w .state) (w .store) budget content
-      ≡ record {
-        said = replyTo T w c .outcome;
-        made = replyTo T w c .made;
-        state = next T w c .state;
-        store = next T w c .store;
-      }
-  unfolding callWith serve ofAnswer ofStartup replyTo next stateAfter storeAfter
-  served w budget (records.Call x) = refl
-  served w budget records.Recover = refl
-
   module _ (broken : Bool) where
     abbrev from : ℕ → World → List Request → Session
     from n w requests = session T broken n (w .state) (w .store) requests
@@ -58,7 +42,7 @@ module _ (T : Topology) where
         })
         (from (n + 1) (next T w (callOf r)) rs)
     unfolding session callOf
-    serves-on n w r rs = rw (served w (r .budget) (r .content))
+    serves-on n w r rs = rw (served T w (r .budget) (r .content))
 
     lines-are : (n : ℕ) (w : World) (requests : List Request)
         → from n w requests .lines

@@ -5,6 +5,7 @@ pub mod Lists
 pub mod ChannelLaws
 pub mod Passing
 pub mod Calls
+pub mod CallLists
 pub mod TopologyLaws
 pub mod SoundLaws
 pub mod HistoryLaws

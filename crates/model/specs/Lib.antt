@@ -1,4 +1,5 @@
--- Document 01 as definitions, in its order. What a reader must believe is here; what is proved of it is in proofs/.
+-- Documents 01 and 02 as definitions, in their order. What a reader must believe is here; what is proved of it is in
+-- proofs/.
 pub mod Notation
 pub mod Outcome
 pub mod Check
@@ -24,3 +25,5 @@ pub mod Found
 pub mod Extent
 pub mod Order
 pub mod Cases
+pub mod CallList
+pub mod Reduction

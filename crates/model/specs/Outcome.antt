@@ -14,7 +14,7 @@ use Rattle.model.specs.declared.Refusal.{Refusal}
 use Rattle.model.specs.declared.Refusal.the-variants.{ProcessCount, ChannelCount, UnknownEnd, SelfChannel}
 use Rattle.model.specs.declared.Refusal.the-variants.{DoubledChannel, ShortStore, Malformed, NoSuch, ChannelFull}
 use Rattle.model.specs.declared.Refusal.the-variants.{ChannelEmpty, LogFull, NotNow, LastLine, MarkerOnClosed}
-use Rattle.model.specs.declared.Refusal.the-variants.{Unsound, BadCount}
+use Rattle.model.specs.declared.Refusal.the-variants.{Unsound, BadCount, NothingRefused, LongList}
 
 -- "Outcomes: `done`; `took` and body; `note`; `line` and its number for a restart; `refused` and number", and "cut"
 pub data Said : Type 0 where
@@ -61,6 +61,9 @@ refusalNumber LastLine = 13
 refusalNumber MarkerOnClosed = 14
 refusalNumber Unsound = 15
 refusalNumber BadCount = 16
+-- document 02, M-100: "18, the list is longer than 256", "17, no step is refused"
+refusalNumber NothingRefused = 17
+refusalNumber LongList = 18
 
 -- what a step's outcome says
 abbrev pub saidBy : Outcome → Said
@@ -69,6 +72,15 @@ saidBy (outcome.Received body) = took body
 saidBy outcome.ReceivedMarker = note
 saidBy (outcome.Refused r) = refused (refusalNumber r)
 saidBy outcome.PowerLost = cut
+
+-- the number that is said, where it is a refusal's
+unfoldable pub refusedWith : Said → Option ℕ
+refusedWith done = none
+refusedWith (took body) = none
+refusedWith note = none
+refusedWith (line k) = none
+refusedWith (refused n) = some n
+refusedWith cut = none
 
 -- the number that a verdict, an initialize or a recover refuses with, if it does
 unfoldable pub refusalOf : Verdict → Option ℕ

@@ -86,7 +86,21 @@ pub enum Record {
     Recover,
 }
 
-// Document 01's refusals, in the order of their numbers, 1 to 16.
+// A list of calls (document 02's step list): place i is its i-th call, and a list is as long as its count says. Places
+// from count on are unused.
+pub struct Listed {
+    pub content: Record,
+}
+
+// "at most 256 steps, restarts included"
+pub const LISTED: usize = 256;
+
+pub struct CallList {
+    pub calls: [Listed; LISTED],
+    pub count: u16,
+}
+
+// The refusals of documents 01 and 02, in the order of their numbers, 1 to 18.
 pub enum Refusal {
     ProcessCount,
     ChannelCount,
@@ -104,6 +118,8 @@ pub enum Refusal {
     MarkerOnClosed,
     Unsound,
     BadCount,
+    NothingRefused,
+    LongList,
 }
 
 // What checks say: everything passes, or the first refusal.

@@ -126,6 +126,17 @@ pub fn read(bytes: &[u8]) -> Reading
     }
 }
 
+// The plan's own bytes: all of them where they end within it.
+pub fn own(bytes: &[u8]) -> &[u8]
+    ensures { λ r. ⌜ now r ≡ take (planLength (now (bytes .entry))) (now (bytes .entry)) ⌝ }
+{
+    let length = plan_length(bytes);
+    if bytes.len() < length {
+        return bytes;
+    }
+    &bytes[..length]
+}
+
 // The bytes after the plan: none where they end within it.
 pub fn rest(bytes: &[u8]) -> &[u8]
     ensures { λ r. ⌜ now r ≡ drop (planLength (now (bytes .entry))) (now (bytes .entry)) ⌝ }

@@ -1,9 +1,9 @@
-// Document 01 tells refusals by their numbers.
+// The papers tell refusals by their numbers.
 use model::Refusal;
 ghost use mathlib.Core.Path.{_≡_};
 ghost use Rattle.model.specs.Outcome.{refusalNumber};
 
-// Document 01's number of a refusal.
+// The papers' number of a refusal.
 pub fn number(r: Refusal) -> u8
     ensures { λ n. ⌜ n ≡ refusalNumber r ⌝ }
 {
@@ -24,5 +24,7 @@ pub fn number(r: Refusal) -> u8
         Refusal::MarkerOnClosed => 14,
         Refusal::Unsound => 15,
         Refusal::BadCount => 16,
+        Refusal::NothingRefused => 17,
+        Refusal::LongList => 18,
     }
 }

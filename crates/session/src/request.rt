@@ -12,7 +12,7 @@ pub enum BudgetSource {
 }
 
 // More writes than any step makes.
-const FULL: u32 = 4294967295;
+const FULL: u32 = u32::MAX;
 
 // How many bytes a given budget has.
 const BUDGET_BYTES: usize = 4;

@@ -4,6 +4,7 @@
 mod input;
 mod reads;
 mod recovers;
+mod reductions;
 mod steps;
 mod sum;
 mod writes;
@@ -25,7 +26,8 @@ fn work(bytes: &mut [u8]) -> u32 {
         1 => steps::run(topology, times, &bytes[at..]),
         2 => recovers::run(topology, times, &bytes[at..]),
         3 => reads::run(times, &mut bytes[at..]),
-        _ => writes::run(times, &bytes[at..]),
+        4 => writes::run(times, &bytes[at..]),
+        _ => reductions::run(topology, times, &bytes[at..]),
     }
 }
 

@@ -1,0 +1,5 @@
+-- Laws that the proofs of several functions cite.
+pub mod Asking
+pub mod Listing
+pub mod Printed
+pub mod Answering

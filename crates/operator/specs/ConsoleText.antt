@@ -1,0 +1,53 @@
+-- The whole output of `console`, as bytes, and its promise.
+use Prim.Native.Nat.{ℕ, _+_, _-_, _*_}
+use mathlib.Core.List.{List, _++_}
+use lib.ListN.{length, getD}
+use Rattle.model.specs.declared.Record.{Record}
+use Rattle.model.specs.declared.Record.the-variants.{Recover}
+use Rattle.model.specs.Notation.{concatBelow}
+use Rattle.model.specs.Topology.{channelLimit}
+use Rattle.model.specs.Record.{writeRecord}
+use Rattle.model.specs.CallList.{listLimit}
+use Rattle.record.specs.Written.{longest}
+use Rattle.report.specs.Appends.{WholeText}
+use Rattle.report.specs.Hex.{planLineText, keptText, lastText, refusedText}
+use Rattle.report.specs.Text.{planRefusedText}
+use Rattle.report.specs.TextBytes.{planLineBytes, keptBytes, lastBytes}
+use Rattle.operator.specs.Console.{Answer, planRefused, refused, reduced, console, PartIn}
+
+-- the line of a kept call, and of the last one, which is refused with n: a call's number in the list counts from 1
+abbrev pub keptLine : (ℕ → Record) → ℕ → List ℕ
+keptLine call place = keptText (writeRecord (call place)) (place + 1)
+
+abbrev pub lastLine : (ℕ → Record) → ℕ → ℕ → List ℕ
+lastLine call place n = lastText (writeRecord (call place)) (place + 1) n
+
+-- "a line for each kept call [..], and on the last one ` refused ` and the number"
+abbrev pub partText : (ℕ → Record) → List ℕ → ℕ → List ℕ
+partText call part n =
+    concatBelow (length part - 1) (λ i. keptLine call (getD part i 0))
+    ++ lastLine call (getD part (length part - 1) 0) n
+
+-- "a line with the plan's bytes", and the part; or one line
+unfoldable pub answerText : Answer → List ℕ → List ℕ
+answerText (planRefused n) part = planRefusedText n
+answerText (refused n) part = refusedText n
+answerText (reduced plan T calls f) part = planLineText plan ++ partText (λ i. getD calls i Recover) part (f .number)
+
+-- How many bytes an output has at most: a plan's are its two sizes and the two ends of each channel.
+abbrev pub planBytes : ℕ
+planBytes = 2 + 2 * channelLimit
+
+abbrev pub partBytes : ℕ
+partBytes = (listLimit - 1) * keptBytes longest + lastBytes longest
+
+-- 9,370 bytes
+abbrev pub consoleBytes : ℕ
+consoleBytes = planLineBytes planBytes + partBytes
+
+-- The public promise: the buffer holds the whole of the answer's text, and is otherwise as before. Only which part
+-- comes back, of those that the definition allows, is open.
+pub record Tells (input before after : List ℕ) (r : ℕ) : Type 0 where
+  pub part : List ℕ
+  pub allowed : PartIn (console input) part
+  pub text : WholeText (answerText (console input) part) before after r

@@ -1,0 +1,29 @@
+-- The public promise of `reduce`.
+use mathlib.Core.Path.{_≡_}
+use mathlib.Core.List.{List, []}
+use Rattle.model.specs.declared.Topology.{Topology}
+use Rattle.model.specs.declared.Record.{Record}
+use Rattle.model.specs.declared.Refusal.{Refusal}
+use Rattle.model.specs.Outcome.{refusalNumber}
+use Rattle.model.specs.Reduction.{Sought, refuses, finds, sought, PartFor}
+use Rattle.reduction.specs.declared.Found.{Found}
+use Rattle.reduction.specs.declared.Found.the-variants as found
+use Rattle.reduction.specs.declared.Reduced.{Reduced}
+use Rattle.reduction.specs.Parts.{kept, holding, Held}
+
+-- what each case of the code's answer says
+abbrev pub soughtIn : Found → Sought
+soughtIn (found.Failure place r) = finds (record { place = place; number = refusalNumber r })
+soughtIn (found.Refused r) = refuses (refusalNumber r)
+
+-- a refusal, and the empty part
+abbrev pub refusedBy : Refusal → Reduced
+refusedBy r = record { found = found.Refused r; part = holding [] }
+
+-- The refusal, or the list's first failure with its number, is the definition's. The part is one that the definition
+-- allows and no more is said of it: "Which of several such parts comes back is left open." But it comes back in one
+-- way: its places, how many they are, and 0 in the places after them.
+pub record Reduces (T : Topology) (calls : List Record) (r : Reduced) : Type 0 where
+  pub answer : soughtIn (r .found) ≡ sought T calls
+  pub part : PartFor T calls (sought T calls) (kept (r .part))
+  pub held : Held (r .part)

@@ -1,0 +1,97 @@
+// A part of a list, run from setup with full current, up to its first refusal.
+use crate::part::Part;
+use model::CallList;
+use model::Outcome;
+use model::Record;
+use model::Refusal;
+use model::Start;
+use model::State;
+use model::Topology;
+use model::Verdict;
+use rules::layout::STORE_CELLS;
+use rules::refusal::number;
+ghost use mathlib.Core.Path.{_≡_};
+ghost use Rattle.model.specs.Outcome.{refusalNumber, refusalOf, refusedWith, saidBy};
+ghost use Rattle.model.specs.CallList.{firstFailure};
+ghost use Rattle.reduction.specs.Parts.{Held};
+ghost use Rattle.reduction.specs.Replays.{endOf, failureFrom, calls, endsWith};
+
+// More writes than any step makes.
+const FULL: u32 = u32::MAX;
+
+// How a run ends: at a refused call, which is the part's i-th, counted from 0; or with none refused.
+pub enum End {
+    Refused(u16, Refusal),
+    Through,
+}
+
+// What a step's outcome says of refusals.
+fn verdict(outcome: Outcome) -> Verdict
+    ensures { λ r. ⌜ refusalOf r ≡ refusedWith (saidBy outcome) ⌝ }
+{
+    match outcome {
+        Outcome::Done => Verdict::Pass,
+        Outcome::Received(_) => Verdict::Pass,
+        Outcome::ReceivedMarker => Verdict::Pass,
+        Outcome::Refused(r) => Verdict::Refuse(r),
+        Outcome::PowerLost => Verdict::Pass,
+    }
+}
+
+// The calls of a part, from this state and store on. (Each call stands in the loop: a function for one call would
+// cost two copies of the state.)
+fn run(topology: Topology, list: CallList, part: Part, first: State, store: &mut [u32]) -> End
+    requires { ⌜ Held part ⌝ }
+    ensures { λ r. ⌜ endOf r ≡ failureFrom topology first (now (store .entry)) (calls list part) ⌝ }
+{
+    let mut state = first;
+    let mut i: u16 = 0;
+    while i < part.count {
+        let listed = list.calls[part.places[i as usize] as usize];
+        let content = listed.content;
+        match content {
+            Record::Call(step) => {
+                let answer = engine::step(state, step, store, FULL);
+                let outcome = answer.outcome;
+                if let Verdict::Refuse(r) = verdict(outcome) {
+                    return End::Refused(i, r);
+                }
+                let after = answer.state;
+                state = after;
+            }
+            Record::Recover => {
+                let started = recovery::recover(topology, store);
+                let start = started.start;
+                if let Start::Refused(r) = start {
+                    return End::Refused(i, r);
+                }
+                let after = started.state;
+                state = after;
+            }
+        }
+        i += 1;
+    }
+    End::Through
+}
+
+// In a store of its own, which starts as zeros each time.
+pub fn replay(topology: Topology, list: CallList, part: Part) -> End
+    requires { ⌜ Held part ⌝ }
+    ensures { λ r. ⌜ endOf r ≡ firstFailure topology (calls list part) ⌝ }
+{
+    let mut store = [0u32; STORE_CELLS];
+    let started = engine::initialize(topology, &mut store);
+    let first = started.state;
+    run(topology, list, part, first, &mut store)
+}
+
+// Whether a part's last call is its first refused one, with this refusal's number.
+pub fn fails(topology: Topology, list: CallList, part: Part, refusal: Refusal) -> bool
+    requires { ⌜ Held part ⌝ }
+    ensures { λ r. ⌜ r ≡ endsWith (firstFailure topology (calls list part)) (part .count) (refusalNumber refusal) ⌝ }
+{
+    let End::Refused(i, r) = replay(topology, list, part) else {
+        return false;
+    };
+    i + 1 == part.count && number(r) == number(refusal)
+}

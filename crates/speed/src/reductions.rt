@@ -1,0 +1,64 @@
+// Work 5: the smallest part of a script that fails as it does. The script is a list of calls, kind 9 a recover; what it
+// has past 256 calls is left out.
+use crate::input::SCRIPTED;
+use crate::input::byte;
+use crate::input::scripted;
+use crate::sum::byte_sum;
+use crate::sum::fold;
+use model::CallList;
+use model::LISTED;
+use model::Listed;
+use model::Record;
+use model::Topology;
+use reduction::Found;
+
+fn call(script: &[u8], turn: u32) -> Record {
+    match byte(script, 0) {
+        9 => Record::Recover,
+        _ => Record::Call(scripted(script, turn)),
+    }
+}
+
+fn list(script: &[u8], turn: u32) -> CallList {
+    let unused = Listed {
+        content: Record::Recover,
+    };
+    let mut calls = [unused; LISTED];
+    let mut count: u16 = 0;
+    let mut left = script;
+    while (count as usize) < LISTED {
+        if left.len() < SCRIPTED {
+            break;
+        }
+        let content = call(left, turn);
+        calls[count as usize] = Listed { content };
+        count += 1;
+        let after = &left[SCRIPTED..];
+        left = after;
+    }
+    CallList { calls, count }
+}
+
+// The place and the number of the first refusal, or the number alone.
+fn found_sum(sum: u32, found: Found) -> u32 {
+    match found {
+        Found::Failure(place, r) => fold(fold(sum, place as u32), rules::refusal::number(r) as u32),
+        Found::Refused(r) => fold(sum, rules::refusal::number(r) as u32),
+    }
+}
+
+pub fn run(topology: Topology, times: u32, script: &[u8]) -> u32 {
+    let mut sum = 0;
+    let mut i: u32 = 0;
+    while i < times {
+        let list = list(script, i);
+        let reduced = reduction::reduce(topology, list);
+        let found = reduced.found;
+        let part = reduced.part;
+        let places = part.places;
+        sum = fold(found_sum(sum, found), part.count as u32);
+        sum = byte_sum(sum, &places);
+        i += 1;
+    }
+    sum
+}
