@@ -118,6 +118,7 @@ pub reduce-spec : {M : Type 1} → statement M
 reduce-spec =
     tie.close
     (tie.spec (λ c κs. search needs) (λ c. search needs) (λ c κs. search needs) (λ c. search needs) plan
-    (λ c. search needs) (λ c κs. search needs) (λ c κs. few c) (λ c κs. search needs) (λ c. search needs) broken (λ c κs. search needs)
+    (λ c. search needs) (λ c κs. search needs) (λ c κs. few c) (λ c κs. search needs) (λ c. search needs) broken
+    (λ c κs. search needs)
     (λ c. search needs) (λ c κs. search needs) (λ c. search needs) (λ c κs. search needs) (λ c κs. search needs)
     may-print (λ c. search needs) refused (λ c. search needs) part)
