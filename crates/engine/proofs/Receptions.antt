@@ -15,13 +15,14 @@ use Rattle.model.specs.declared.Entry.{Entry}
 use Rattle.model.specs.declared.Entry.the-variants.{Message, Marker}
 use Rattle.model.specs.Notation.{upd}
 use Rattle.model.specs.Layout.{storeCells, slot, processRecord, channelRecord, Log, messageLog, channelLog}
-use Rattle.model.specs.Layout.{messagePlaces, channelPlaces, countCell, entryCell}
+use Rattle.model.specs.Layout.{messagePlaces, channelPlaces, messageEntryCells, channelEntryCells, countCell}
+use Rattle.model.specs.Layout.{entryCell, entryFor}
 use Rattle.model.specs.State.{GlobalState, Progress, LogCounts, raised, raisedAll, viewProgress, viewCounts}
 use Rattle.model.specs.Change.{withWord, withTag, withChannel, withProgress, withCounts, withLogical, withClosed}
 use Rattle.model.specs.Change.{setEntries, enterBody, logicalCheckpoint, close}
 use Rattle.model.specs.Receive.{anyFull}
 use Rattle.model.specs.Receive as receive
-use Rattle.model.specs.Write.{logWrites, logsWrites}
+use Rattle.model.specs.Write.{cellWrites, appendWrites, logWrites, logsWrites}
 use Rattle.model.specs.Step.{react}
 use Rattle.model.proofs.laws.Tests.{true-is-not-false, or-left, or-true, or-false}
 use Rattle.model.proofs.laws.Functions.{upd-unchanged, seen-set}
@@ -49,26 +50,28 @@ module _ (n : LogCounts) (c p : ℕ) where
 
   pub both-written : (line body : ℕ) (a b : Bool)
       → logsWrites line n (logIf a (channelLog c) ++ logIf b (messageLog p)) body
-      ≡ appendIf a (countCell line (channelLog c)) (n .channels c) body
-      ++ appendIf b (countCell line (messageLog p)) (n .messages p) body
-  unfolding logsWrites logWrites
+      ≡ appendIf a (countCell line (channelLog c)) (n .channels c) (entryFor (channelLog c) body)
+      ++ appendIf b (countCell line (messageLog p)) (n .messages p) (entryFor (messageLog p) body)
+  unfolding logsWrites logWrites appendWrites cellWrites
   both-written line body true true = refl
   both-written line body true false = refl
   both-written line body false true = refl
   both-written line body false false = refl
 
 -- an append at a cell that is known by another name
-pub moved : {st st′ : List ℕ} {b b′ : ℕ} (t : Bool) (at at′ count body : ℕ) → at ≡ at′
-    → Spent st b (appendIf t at count body) st′ b′ → Spent st b (appendIf t at′ count body) st′ b′
-moved {st} {st′} {b} {b′} t at at′ count body e p = subst (λ (a : ℕ). Spent st b (appendIf t a count body) st′ b′) e p
+pub moved : {st st′ : List ℕ} {b b′ : ℕ} (t : Bool) (at at′ count : ℕ) (entry : List ℕ) → at ≡ at′
+    → Spent st b (appendIf t at count entry) st′ b′ → Spent st b (appendIf t at′ count entry) st′ b′
+moved {st} {st′} {b} {b′} t at at′ count entry e p = subst (λ (a : ℕ). Spent st b (appendIf t a count entry) st′ b′) e p
 
 -- how many writes that are
-pub both-cost : (a b : Bool) (m k i j body : ℕ)
-    → length (appendIf a m i body ++ appendIf b k j body) ≡ 2 * (boolByte a + boolByte b)
-both-cost true true m k i j body = refl
-both-cost true false m k i j body = refl
-both-cost false true m k i j body = refl
-both-cost false false m k i j body = refl
+pub both-cost : (a b : Bool) (m k i j body c p : ℕ)
+    → length (appendIf a m i (entryFor (channelLog c) body) ++ appendIf b k j (entryFor (messageLog p) body))
+    ≡ 2 * (boolByte a + boolByte b)
+unfolding appendWrites cellWrites
+both-cost true true m k i j body c p = refl
+both-cost true false m k i j body c p = refl
+both-cost false true m k i j body c p = refl
+both-cost false false m k i j body c p = refl
 
 -- the slot goes by the line's parity, so that a line that wraps has the right one
 pub same-cell : (k : ℕ) (log : Log) → countCell ((k + 1) % 2 ^ 32) log ≡ countCell (k + 1) log
@@ -96,7 +99,8 @@ module _ (x : Reaction) (a : Setting) where
   -- no log needed is full: the place for one entry more is in the store
   module _ (h : InArrays a) (roomy : full x a ≡ false) (line : ℕ) where
     pub channel-place : x .«channel_log» ≡ true
-        → entryCell (countCell line (channelLog (a .channel))) (a .«in_channel») < storeCells
+        → entryCell channelEntryCells (countCell line (channelLog (a .channel))) (a .«in_channel») + channelEntryCells
+        ≤ storeCells
     unfolding countCell channelRecord slot
     channel-place e = omega (arith, h .channel, below)
       where
@@ -104,7 +108,8 @@ module _ (x : Reaction) (a : Setting) where
         below = first (x .«channel_log») channelPlaces _ _ e (sym full-test ∙ roomy)
 
     pub message-place : x .«message_log» ≡ true
-        → entryCell (countCell line (messageLog (a .receiver))) (a .«in_messages») < storeCells
+        → entryCell messageEntryCells (countCell line (messageLog (a .receiver))) (a .«in_messages») + messageEntryCells
+        ≤ storeCells
     unfolding countCell processRecord slot
     message-place e = omega (arith, h .receiver, below)
       where

@@ -75,10 +75,11 @@ fn log(x: Reaction, at: Setting, line: u32, body: u32, store: &mut [u32], budget
     ensures { λ r. ⌜ Needed (now (store .entry)) budget (bodyWrites x at line body) (now (store .exit)) r ⌝ }
 {
     let next = std::num::wrapping_add_u32(line, 1);
+    let entry = [body];
     let channel = layout::channel_count_cell(next, at.channel);
-    let left = store::append(store, budget, x.channel_log, channel, at.in_channel, body);
+    let left = store::append(store, budget, x.channel_log, channel, at.in_channel, &entry);
     let message = layout::message_count_cell(next, at.receiver);
-    store::append(store, left, x.message_log, message, at.in_messages, body);
+    store::append(store, left, x.message_log, message, at.in_messages, &entry);
     LOG_WRITES * (x.channel_log as u32 + x.message_log as u32)
 }
 

@@ -21,7 +21,8 @@ use Rattle.model.specs.Notation.{upd, allBelow}
 use Rattle.model.specs.Topology.{receiver, hasProcess, hasChannel, topologyRefusal}
 use Rattle.model.specs.Channel.{channelRoom, bodies, messages, noRoom, noRoomForMessage, noRoomForMarker}
 use Rattle.model.specs.Phase.{isIdle, isNext}
-use Rattle.model.specs.Layout.{Log, messageLog, channelLog, places, entriesFrom, entriesBy, logged}
+use Rattle.model.specs.Layout.{Log, messageLog, channelLog, places, entriesFrom, entriesBy, bodiesBy}
+use Rattle.model.specs.Layout.{logged}
 use Rattle.model.specs.State.{GlobalState, LogCounts, countOf, raised, raisedAll, idleState, noCounts, noProgress}
 use Rattle.model.specs.Sound.{channelSound, channelSoundIn, phaseSound, lineSound, lastLine, sound}
 use Rattle.model.specs.Change.{withRound, withWord, withTag, withChannel, withProgress, withCounts, inPhase}
@@ -261,9 +262,9 @@ initialize-sound T store e =
 
 -- a channel filled from its log is as long as the log's count, which fits
 recovered-length : (T : Topology) (store : List ℕ) → countsFit T store ≡ true → RoomKept T (recoveredChannel T store)
-unfolding countsFit countFits recoveredChannel hasChannel messages logged entriesBy entriesFrom
+unfolding countsFit countFits recoveredChannel hasChannel messages logged bodiesBy entriesBy entriesFrom
 recovered-length T store e c l =
-    rw (lt-ltb c (T .channels) l, length-map, tabulate-length)
+    rw (lt-ltb c (T .channels) l, length-map, length-map, tabulate-length)
     (leb-true _ _ (all-at (T .channels) _ (and-right (allBelow (T .processes) _) _ e) c l))
 
 pub recover-sound : (T : Topology) (store : List ℕ) → recover T store .refusal ≡ none

@@ -1,6 +1,6 @@
 -- Document 01, "The store": where each thing stands.
-use Prim.Native.Nat.{ℕ, _+_, _*_, _%_}
-use mathlib.Core.List.{List}
+use Prim.Native.Nat.{ℕ, zero, suc, _+_, _*_, _%_}
+use mathlib.Core.List.{List, [], _∷_, map}
 use lib.ListN.{getD}
 use Rattle.model.specs.Notation.{tabulate}
 
@@ -45,7 +45,7 @@ unfoldable pub physicalCell : ℕ → ℕ → ℕ
 physicalCell n p = processRecord n p
 
 -- A log: the message log (board log) of a process or the channel log (wire log) of a channel. Both have one shape: a
--- count, then the entries.
+-- count, then the entries, which have as many cells each.
 pub data Log : Type 0 where
   messageLog : ℕ → Log
   channelLog : ℕ → Log
@@ -61,23 +61,51 @@ abbrev pub places : Log → ℕ
 places (messageLog p) = messagePlaces
 places (channelLog c) = channelPlaces
 
+-- how many cells an entry has: one, for the body
+abbrev pub messageEntryCells : ℕ
+messageEntryCells = 1
+
+abbrev pub channelEntryCells : ℕ
+channelEntryCells = 1
+
+abbrev pub entryCells : Log → ℕ
+entryCells (messageLog p) = messageEntryCells
+entryCells (channelLog c) = channelEntryCells
+
 -- the cell of a log's count, for line n
 unfoldable pub countCell : ℕ → Log → ℕ
 countCell n (messageLog p) = processRecord n p + 1
 countCell n (channelLog c) = channelRecord n c
 
--- the cell of the i-th entry of a log whose count stands in the cell `at`
-abbrev pub entryCell : ℕ → ℕ → ℕ
-entryCell at i = at + 1 + i
+-- the first cell of the i-th entry of a log whose count stands in the cell `at`, with w cells for an entry
+abbrev pub entryCell : ℕ → ℕ → ℕ → ℕ
+entryCell w at i = at + 1 + w * i
 
--- the first k bodies of a log whose count stands in the cell `at`
-unfoldable pub entriesFrom : List ℕ → ℕ → ℕ → List ℕ
-entriesFrom store at k = tabulate k (λ i. cell store (entryCell at i))
+-- what w cells hold, from the cell `at` on
+unfoldable pub cellsFrom : List ℕ → ℕ → ℕ → List ℕ
+cellsFrom store zero at = []
+cellsFrom store (suc w) at = cell store at ∷ cellsFrom store w (at + 1)
+
+-- the first k entries of a log whose count stands in the cell `at`, each as what its w cells hold
+unfoldable pub entriesFrom : List ℕ → ℕ → ℕ → ℕ → List (List ℕ)
+entriesFrom store w at k = tabulate k (λ i. cellsFrom store w (entryCell w at i))
+
+-- the first k entries of a log for line n
+unfoldable pub entriesBy : List ℕ → ℕ → Log → ℕ → List (List ℕ)
+entriesBy store n log k = entriesFrom store (entryCells log) (countCell n log) k
+
+-- what the cells of a log's entry hold for a body, and the body that an entry has
+abbrev pub entryFor : Log → ℕ → List ℕ
+entryFor (messageLog p) body = body ∷ []
+entryFor (channelLog c) body = body ∷ []
+
+abbrev pub bodyIn : List ℕ → ℕ
+bodyIn entry = getD entry 0 0
 
 -- the first k bodies of a log for line n
-unfoldable pub entriesBy : List ℕ → ℕ → Log → ℕ → List ℕ
-entriesBy store n log k = entriesFrom store (countCell n log) k
+unfoldable pub bodiesBy : List ℕ → ℕ → Log → ℕ → List ℕ
+bodiesBy store n log k = map bodyIn (entriesBy store n log k)
 
 -- the bodies that a log for line n holds in the store: as many as its count there says
 unfoldable pub logged : List ℕ → ℕ → Log → List ℕ
-logged store n log = entriesBy store n log (cell store (countCell n log))
+logged store n log = bodiesBy store n log (cell store (countCell n log))

@@ -15,7 +15,7 @@ use Rattle.model.specs.Word.{replay}
 use Rattle.model.specs.Topology.{topologyRefusal, hasProcess, hasChannel}
 use Rattle.model.specs.Channel.{messages}
 use Rattle.model.specs.Layout.{storeCells, cell, lineCell, physicalCell, Log, messageLog, channelLog, places}
-use Rattle.model.specs.Layout.{countCell, entriesBy, logged}
+use Rattle.model.specs.Layout.{countCell, bodiesBy, logged}
 use Rattle.model.specs.State.{GlobalState, idleState, blankState}
 use Rattle.model.specs.Write.{Write, writeAll, commitWrites}
 
@@ -70,7 +70,7 @@ recoverRefusal T store =
 -- what the slot for line n makes of process p, with the first k entries of its message log: "words by replaying board
 -- logs on copies"
 unfoldable pub restoredBy : List ℕ → ℕ → ℕ → ℕ → ℕ
-restoredBy store n p k = replay (cell store (physicalCell n p)) (entriesBy store n (messageLog p) k)
+restoredBy store n p k = replay (cell store (physicalCell n p)) (bodiesBy store n (messageLog p) k)
 
 -- with as many as its count in the store says
 unfoldable pub restored : List ℕ → ℕ → ℕ → ℕ

@@ -7,7 +7,8 @@ use lib.Dec.{ltb}
 use Rattle.model.specs.declared.Topology.{Topology}
 use Rattle.model.specs.Notation.{tabulate}
 use Rattle.model.specs.Outcome.{Said, cut}
-use Rattle.model.specs.Layout.{Log, messageLog, channelLog, countCell, entryCell, physicalCell, lineCell}
+use Rattle.model.specs.Layout.{lineCell, physicalCell, Log, messageLog, channelLog, countCell, entryCell}
+use Rattle.model.specs.Layout.{entryFor}
 use Rattle.model.specs.State.{GlobalState, LogCounts, countOf}
 
 -- one store of a value into a cell
@@ -34,12 +35,19 @@ clearWrites T n =
 unfoldable pub physicalWrites : ℕ → ℕ → ℕ → List Write
 physicalWrites n p word = record { cell = physicalCell n p; value = word } ∷ []
 
--- "A logged take: body, then the raised count." "a logged body goes to the place its log's count in the state names"
+-- these values into the cells from `at` on
+unfoldable pub cellWrites : ℕ → List ℕ → List Write
+cellWrites at [] = []
+cellWrites at (v ∷ vs) = record { cell = at; value = v } ∷ cellWrites (at + 1) vs
+
+-- "A logged take: body, then the raised count." The log's count stands in the cell `at`.
+unfoldable pub appendWrites : ℕ → ℕ → List ℕ → List Write
+appendWrites at count entry =
+    cellWrites (entryCell (length entry) at count) entry ++ (record { cell = at; value = count + 1 } ∷ [])
+
+-- "a logged body goes to the place its log's count in the state names"
 unfoldable pub logWrites : ℕ → Log → ℕ → ℕ → List Write
-logWrites n log count body =
-    record { cell = entryCell (countCell n log) count; value = body }
-    ∷ record { cell = countCell n log; value = count + 1 }
-    ∷ []
+logWrites n log count body = appendWrites (countCell n log) count (entryFor log body)
 
 -- a body into each of these logs, in their order; counts are those of the state
 unfoldable pub logsWrites : ℕ → LogCounts → List Log → ℕ → List Write

@@ -18,7 +18,7 @@ use Rattle.model.specs.Check.{Check, _⇒_, firstRefusal}
 use Rattle.model.specs.Topology.{processLimit, channelLimit, hasProcess, hasChannel}
 use Rattle.model.specs.Channel.{entries, messages}
 use Rattle.model.specs.Layout.{cell, processCells, channelCells, Log, messageLog, channelLog, places}
-use Rattle.model.specs.Layout.{messagePlaces, channelPlaces, countCell, logged}
+use Rattle.model.specs.Layout.{messagePlaces, channelPlaces, entryCells, countCell, logged}
 use Rattle.model.specs.State.{GlobalState, view, idleState, blankState, emptyChannel}
 use Rattle.model.specs.Outcome.{startRefusal}
 use Rattle.model.specs.Start.{startupOr, initializeRefusal, recoverRefusal, storedLine, countFits, countsFit, restored}
@@ -29,7 +29,7 @@ use Rattle.model.proofs.laws.Lists.{all-at, or-else-none}
 use Rattle.model.proofs.laws.Passing.{passed}
 use Rattle.model.proofs.laws.TopologyLaws.{Planned}
 use Rattle.model.proofs.store.Sizes.{Sized, sized-start}
-use Rattle.model.proofs.store.Addresses.{in-store, log-within, message-cell, channel-cell}
+use Rattle.model.proofs.store.Addresses.{Upto, upto-more, in-store, log-within, message-cell, channel-cell}
 use Rattle.recovery.specs.Starts.{Starts}
 
 -- the two ways in which initialize and recover answer
@@ -111,13 +111,16 @@ readable T st e = record { sized = sized-start T st (both .0); fits = fits }
     fits (messageLog p) l = leb-true _ _ (all-at (T .processes) _ (and-left _ _ fit) p l)
     fits (channelLog c) l = leb-true _ _ (all-at (T .channels) _ (and-right (allBelow (T .processes) _) _ fit) c l)
 
--- the last entry of a log, too, is in the store
+-- the last cell of a log's last entry, too, is in the store
 pub last-in-store : {T : Topology} {st : List ℕ} → Readable T st → (log : Log) → Planned T log
-    → countCell (storedLine st) log + cell st (countCell (storedLine st) log) < length st
+    → countCell (storedLine st) log + entryCells log * cell st (countCell (storedLine st) log) < length st
 last-in-store {T} {st} r log planned =
     let k : ℕ = storedLine st in
-    let a : ℕ = countCell k log + cell st (countCell k log) in
-    in-store (r .sized) k a (log-within (r .sized) k log a planned (omega (arith, r .fits log planned)))
+    let count : ℕ = cell st (countCell k log) in
+    let a : ℕ = countCell k log + entryCells log * count in
+    let upto : Upto k log count a = omega arith in
+    in-store (r .sized) k a
+    (log-within (r .sized) k log a planned (upto-more k log count (places log) a (r .fits log planned) upto))
 
 -- what recover makes of one process and of one channel
 abbrev pub wordOf : List ℕ → ℕ → ℕ

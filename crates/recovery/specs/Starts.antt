@@ -1,16 +1,16 @@
 -- What initialize and recover promise: everything that comes back, and the store after it, is what the definition has.
 -- Open in the state, which is judged by its view, are the unused places of channels; there is no marker in it. The
 -- store is the one that stands when the call returns.
-use Prim.Native.Nat.{ℕ}
+use Prim.Native.Nat.{ℕ, _+_, _*_, _<_}
 use mathlib.Core.Path.{_≡_}
-use mathlib.Core.List.{List}
-use lib.ListN.{getD}
+use mathlib.Core.List.{List, map}
+use lib.ListN.{length, getD}
 use Rattle.model.specs.declared.Channel.{Channel}
 use Rattle.model.specs.declared.Entry.{Entry}
 use Rattle.model.specs.declared.Started.{Started}
 use Rattle.model.specs.Outcome.{startRefusal}
 use Rattle.model.specs.Channel.{entries}
-use Rattle.model.specs.Layout.{cell, entriesFrom}
+use Rattle.model.specs.Layout.{cell, entriesFrom, bodyIn}
 use Rattle.model.specs.State.{view, emptyChannel}
 use Rattle.model.specs.Start.{Startup}
 
@@ -26,6 +26,10 @@ wordsSeen words = λ p. getD words p 0
 abbrev pub channelsSeen : List Channel → ℕ → List Entry
 channelsSeen channels = λ c. entries (getD channels c emptyChannel)
 
--- the bodies of the log whose count stands in the cell at
-abbrev pub loggedAt : List ℕ → ℕ → List ℕ
-loggedAt store at = entriesFrom store at (cell store at)
+-- the log whose count stands in the cell at, with w cells for an entry, ends within the store
+abbrev pub Ends : ℕ → List ℕ → ℕ → Type 0
+Ends w store at = at + w * cell store at < length store
+
+-- the bodies of the log whose count stands in the cell at, with w cells for an entry
+abbrev pub loggedAt : ℕ → List ℕ → ℕ → List ℕ
+loggedAt w store at = map bodyIn (entriesFrom store w at (cell store at))

@@ -1,6 +1,7 @@
 // The logs in the store, as recover reads them.
 use model::Channel;
 use model::ROOM;
+use rules::layout;
 use rules::word;
 ghost use mathlib.Core.Path.{_≡_};
 ghost use mathlib.Core.Bool.{false};
@@ -10,8 +11,8 @@ ghost use lib.Dec.{leb};
 ghost use Rattle.model.specs.Notation.{allBelow};
 ghost use Rattle.model.specs.Word.{replay};
 ghost use Rattle.model.specs.Channel.{channelRoom, entries, messages};
-ghost use Rattle.model.specs.Layout.{cell};
-ghost use Rattle.recovery.specs.Starts.{loggedAt};
+ghost use Rattle.model.specs.Layout.{cell, messageEntryCells, channelEntryCells};
+ghost use Rattle.recovery.specs.Starts.{Ends, loggedAt};
 
 // Whether n cells, from first on and each a stride after the one before, hold at most the limit.
 pub fn at_most(store: &[u32], first: usize, stride: usize, n: u8, limit: u8) -> bool
@@ -30,14 +31,14 @@ pub fn at_most(store: &[u32], first: usize, stride: usize, n: u8, limit: u8) -> 
 
 // What the log whose count stands in the cell at makes of a word.
 pub fn replay_log(store: &[u32], at: usize, word: u32) -> u32
-    requires { ⌜ at + cell (now store) at < length (now store) ⌝ }
-    ensures { λ r. ⌜ r ≡ replay word (loggedAt (now (store .entry)) at) ⌝ }
+    requires { ⌜ Ends messageEntryCells (now store) at ⌝ }
+    ensures { λ r. ⌜ r ≡ replay word (loggedAt messageEntryCells (now (store .entry)) at) ⌝ }
 {
     let n = store[at] as usize;
     let mut w = word;
     let mut i = 0;
     while i < n {
-        w = word::enter(w, store[at + 1 + i]);
+        w = word::enter(w, store[at + 1 + layout::MESSAGE_ENTRY_CELLS * i]);
         i += 1;
     }
     w
@@ -45,14 +46,14 @@ pub fn replay_log(store: &[u32], at: usize, word: u32) -> u32
 
 // A channel with the log's bodies as messages tagged 0.
 pub fn fill(store: &[u32], at: usize) -> Channel
-    requires { ⌜ (cell (now store) at ≤ channelRoom) × (at + cell (now store) at < length (now store)) ⌝ }
-    ensures { λ r. ⌜ entries r ≡ messages false (loggedAt (now (store .entry)) at) ⌝ }
+    requires { ⌜ (cell (now store) at ≤ channelRoom) × Ends channelEntryCells (now store) at ⌝ }
+    ensures { λ r. ⌜ entries r ≡ messages false (loggedAt channelEntryCells (now (store .entry)) at) ⌝ }
 {
     let n = store[at] as usize;
     let mut bodies = [0; ROOM];
     let mut i = 0;
     while i < n {
-        bodies[i] = store[at + 1 + i];
+        bodies[i] = store[at + 1 + layout::CHANNEL_ENTRY_CELLS * i];
         i += 1;
     }
     Channel {

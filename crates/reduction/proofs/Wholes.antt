@@ -2,7 +2,7 @@
 -- does.
 use Prim.Native.Nat.{ℕ, zero, suc, _+_, _-_, _<_, _≤_}
 use mathlib.Core.Path.{_≡_, refl, sym, ap, _∙_}
-use mathlib.Core.List.{List, [], _∷_, map, map-append}
+use mathlib.Core.List.{List, [], _∷_, map}
 use mathlib.Core.Option.{Option, none, some, Option·some-ne-none}
 use lib.ListN.{length, getD, take, replicate, length-map}
 use lib.Seq.{ext-getD, getD-take, length-take-le}
@@ -11,7 +11,6 @@ use Rattle.model.specs.declared.Topology.{Topology}
 use Rattle.model.specs.declared.Record.{Record}
 use Rattle.model.specs.declared.Record.the-variants.{Recover}
 use Rattle.model.specs.declared.CallList.{CallList}
-use Rattle.model.specs.Notation.{tabulate}
 use Rattle.model.specs.Outcome.{refusedWith}
 use Rattle.model.specs.Layout.{storeCells}
 use Rattle.model.specs.Program.{fullBudget}
@@ -19,17 +18,12 @@ use Rattle.model.specs.Run.{Call, World, replyTo, next, trace, firstWorld}
 use Rattle.model.specs.ProgramRuns.{callWith}
 use Rattle.model.specs.CallList.{callAt, listed, listLimit, Failure, failureOr, firstFrom, replies, firstFailure}
 use Rattle.model.specs.Reduction.{callsAt, Fails}
-use Rattle.model.proofs.laws.Lists.{tabulate-length, tabulate-at}
+use Rattle.model.proofs.laws.Lists.{tabulate-length, map-tabulate, tabulate-at}
 use Rattle.reduction.specs.declared.part.Part.{Part}
 use Rattle.reduction.specs.Parts.{holding, Held}
 use Rattle.reduction.specs.Replays.{calls}
 use Rattle.reduction.specs.Passes.{Failing}
 use Rattle.reduction.proofs.Parts.{numbers, numbers-length, numbers-at, kept-holding, held-holding}
-
-map-tabulate : {A : Type 0} (f : ℕ → A) (n : ℕ) → map f (numbers n) ≡ tabulate n f
-unfolding tabulate
-map-tabulate f zero = refl
-map-tabulate f (suc n) = map-append f (numbers n) (n ∷ []) ∙ rw (map-tabulate f n)
 
 pub listed-length : (list : CallList) → length (listed list) ≡ list .count
 unfolding listed
@@ -41,11 +35,11 @@ held-places {n = n} l e = rw e (held-holding (numbers n) (rw (numbers-length n) 
 
 pub all-calls : (list : CallList) {part : Part} → part ≡ holding (numbers (list .count)) → calls list part ≡ listed list
 unfolding listed
-all-calls list e = rw (e, kept-holding (numbers (list .count))) (map-tabulate (callAt list) (list .count))
+all-calls list e = rw (e, kept-holding (numbers (list .count))) (map-tabulate (callAt list) (list .count) (λ i. i))
 
 first-calls : (cs : List Record) (n : ℕ) → n ≤ length cs → callsAt cs (numbers n) ≡ take n cs
 first-calls cs n l =
-    map-tabulate (λ i. getD cs i Recover) n
+    map-tabulate (λ i. getD cs i Recover) n (λ i. i)
     ∙ ext-getD Recover _ (take n cs) (tabulate-length n _ ∙ sym (length-take-le n cs l))
     (λ i k.
     let below : i < n = rw (tabulate-length n (λ i. getD cs i Recover)) at k in

@@ -33,11 +33,12 @@ unfolding
     topology.sizeRefusal topology.channelsRefusal topology.topologyRefusal
     channel.bodies channel.messages channel.noRoom channel.noRoomForMessage channel.noRoomForMarker channel.noEntry
     layout.cell layout.slot layout.processRecord layout.channelRecord layout.physicalCell
-    layout.countCell layout.entriesFrom layout.entriesBy layout.logged
+    layout.countCell layout.cellsFrom layout.entriesFrom layout.entriesBy layout.bodiesBy layout.logged
     state.noProgress state.noCounts state.raised state.raisedAll state.idleState
     sound.topologySound sound.channelSound sound.logSound sound.phaseSound sound.lineSound
     sound.channelSoundIn sound.sound
-    write.write write.writeAll write.clearWrites write.physicalWrites write.logWrites write.logsWrites
+    write.write write.writeAll write.clearWrites write.physicalWrites write.cellWrites write.appendWrites
+    write.logWrites write.logsWrites
     write.commitWrites write.underBudget
     change.withRound change.withWord change.withTag change.withChannel change.withProgress change.withCounts
     change.withLogical change.withClosed change.withSent change.inPhase change.setEntries change.enterBody

@@ -23,6 +23,11 @@ pub const MESSAGE_PLACES: u8 = 64;
 
 pub const CHANNEL_PLACES: u8 = 8;
 
+// How many cells an entry of a message log and of a channel log has: one, for the body.
+pub const MESSAGE_ENTRY_CELLS: usize = 1;
+
+pub const CHANNEL_ENTRY_CELLS: usize = 1;
+
 // The first cell of a line's slot.
 fn slot(line: u32) -> usize
     ensures { λ r. ⌜ r ≡ slot line ⌝ }

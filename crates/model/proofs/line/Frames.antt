@@ -2,10 +2,10 @@
 -- line leave the finished line (`Spared`), and writes that don't show in the pending slot either leave everything.
 use Prim.Native.Nat.{ℕ, _+_, _<_}
 use mathlib.Core.Path.{_≡_, refl, sym, subst, _∙_}
-use mathlib.Core.List.{List}
+use mathlib.Core.List.{List, map}
 use lib.ListN.{length, take}
 use lib.Seq.{take-length}
-use Rattle.model.specs.Layout.{cell, lineCell, messageLog, channelLog, countCell, logged}
+use Rattle.model.specs.Layout.{cell, lineCell, messageLog, channelLog, countCell, bodyIn, bodiesBy, logged}
 use Rattle.model.specs.State.{GlobalState}
 use Rattle.model.specs.Write.{Write, writeAll}
 use Rattle.model.specs.Start.{restored}
@@ -23,8 +23,8 @@ module _ {st st′ : List ℕ} (n p k : ℕ) where
   slot-same e = λ i. record { word = restored-same n p k e i; count = e .log .count i }
 
   pub held-same : SameLog n (channelLog p) k st st′ → heldBy st′ n k p ≡ heldBy st n k p
-  unfolding heldBy
-  held-same e = λ i. record { bodies = e .entries i; count = e .count i }
+  unfolding heldBy bodiesBy
+  held-same e = λ i. record { bodies = map bodyIn (e .entries i); count = e .count i }
 
 -- reading with the store's own count is reading with that many
 module _ (st : List ℕ) (n p k : ℕ) where

@@ -2,11 +2,11 @@
 -- one entry more. Where the power is lost within the writes, nothing shows.
 use Prim.Native.Nat.{ℕ, _+_, _<_}
 use mathlib.Core.Path.{_≡_, refl, sym, ap, subst, _∙_}
-use mathlib.Core.List.{List}
+use mathlib.Core.List.{List, [], _∷_, map-append}
 use lib.ListN.{length, take}
 use native.Mathlib.Omega.{arith}
 use Rattle.model.specs.Layout.{cell, physicalCell, Log, messageLog, channelLog, messagePlaces, channelPlaces}
-use Rattle.model.specs.Layout.{places, entriesBy}
+use Rattle.model.specs.Layout.{places, entriesBy, entryFor, bodyIn, bodiesBy}
 use Rattle.model.specs.State.{GlobalState, countOf}
 use Rattle.model.specs.Write.{Write, writeAll, logWrites}
 use Rattle.model.specs.Start.{restoredBy}
@@ -129,7 +129,7 @@ module _ (s : GlobalState) (st : List ℕ) (h : History) (i : Inv s st h) (b : �
       (s .round .line + 1)
       (s .counts .messages q + 1) q
       ≡ loggedSlot b (processAt s st h q)
-  unfolding slotBy restoredBy
+  unfolding slotBy restoredBy bodiesBy
   slot-logged q l room =
       let n : ℕ = s .round .line + 1 in
       let k : ℕ = s .counts .messages q in
@@ -139,7 +139,8 @@ module _ (s : GlobalState) (st : List ℕ) (h : History) (i : Inv s st h) (b : �
         log-counted (s .topology) st (i .sized) n log k b l room,
         log-appended (s .topology) st (i .sized) n log k b l room,
         kept,
-        replay-snoc (cell st (physicalCell n q)) (entriesBy st n log k) b,
+        map-append bodyIn (entriesBy st n log k) (entryFor log b ∷ []),
+        replay-snoc (cell st (physicalCell n q)) (bodiesBy st n log k) b,
       )
 
   pub held-logged : (c : ℕ) → c < s .topology .channels → s .counts .channels c < channelPlaces
@@ -147,11 +148,13 @@ module _ (s : GlobalState) (st : List ℕ) (h : History) (i : Inv s st h) (b : �
       (s .round .line + 1)
       (s .counts .channels c + 1) c
       ≡ loggedHeld b (channelAt s st h c)
-  unfolding heldBy
+  unfolding heldBy bodiesBy
   held-logged c l room =
       let n : ℕ = s .round .line + 1 in
       let k : ℕ = s .counts .channels c in
+      let log : Log = channelLog c in
       rw (
-        log-counted (s .topology) st (i .sized) n (channelLog c) k b l room,
-        log-appended (s .topology) st (i .sized) n (channelLog c) k b l room,
+        log-counted (s .topology) st (i .sized) n log k b l room,
+        log-appended (s .topology) st (i .sized) n log k b l room,
+        map-append bodyIn (entriesBy st n log k) (entryFor log b ∷ []),
       )

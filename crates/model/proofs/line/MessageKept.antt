@@ -14,7 +14,7 @@ use Rattle.model.specs.Layout.{Log, messageLog, channelLog, messagePlace
 use Rattle.model.specs.State.{GlobalState, raised, raisedAll}
 use Rattle.model.specs.Change.{setEntries, enterBody, withCounts}
 use Rattle.model.specs.Outcome.{accepted}
-use Rattle.model.specs.Write.{Result, writeAll, logWrites, logsWrites}
+use Rattle.model.specs.Write.{Result, writeAll, cellWrites, appendWrites, logWrites, logsWrites}
 use Rattle.model.specs.Receive.{Reaction, logsOnly}
 use Rattle.model.specs.Step.{nextLine, react, receivedOutcome}
 use Rattle.model.specs.History.{History, received, addEvent, onStep, onAccepted, onReceive, onMessage}
@@ -99,8 +99,8 @@ module _ (s : GlobalState) (st : List ℕ) (h : History) (i : Inv s st h) (ends 
         → Receives (receiving c b (process .count + 1) (loggedSlot b process) process)
         → Leaves (leaving es receipts (channel .count) (channel .pending) channel)
         → Both s st h c (receiveBy (logsOnly (messageLog r ∷ [])) s c (Message b u) es)
-    unfolding react logsOnly raisedAll raised logsWrites logWrites nextLine receivedOutcome onStep onAccepted onReceive
-        accepted
+    unfolding react logsOnly raisedAll raised logsWrites logWrites appendWrites cellWrites nextLine receivedOutcome
+        onStep onAccepted onReceive accepted
     message-logged room receives leaves =
         let log : Log = messageLog r in
         let planned = ends c l .1 in
@@ -127,8 +127,8 @@ module _ (s : GlobalState) (st : List ℕ) (h : History) (i : Inv s st h) (ends 
         → Receives (receiving c b (process .count) (process .pending) process)
         → Leaves (leaving es receipts (channel .count + 1) (loggedHeld b channel) channel)
         → Both s st h c (receiveBy (logsOnly (channelLog c ∷ [])) s c (Message b u) es)
-    unfolding react logsOnly raisedAll raised logsWrites logWrites nextLine receivedOutcome onStep onAccepted onReceive
-        accepted
+    unfolding react logsOnly raisedAll raised logsWrites logWrites appendWrites cellWrites nextLine receivedOutcome
+        onStep onAccepted onReceive accepted
     channel-logged room receives leaves =
         let log : Log = channelLog c in
         let writes = logWrites n log (s .counts .channels c) b in

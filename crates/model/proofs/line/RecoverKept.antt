@@ -16,7 +16,8 @@ use Rattle.model.specs.Check.{firstRefusal}
 use Rattle.model.specs.Word.{replay}
 use Rattle.model.specs.Topology.{sender, receiver, hasProcess, hasChannel, topologyRefusal}
 use Rattle.model.specs.Channel.{bodies, messages, markerless}
-use Rattle.model.specs.Layout.{storeCells, messageLog, channelLog, entriesFrom, entriesBy, logged}
+use Rattle.model.specs.Layout.{storeCells, messageLog, channelLog, entriesFrom, entriesBy, bodiesBy}
+use Rattle.model.specs.Layout.{logged}
 use Rattle.model.specs.State.{GlobalState, idleState}
 use Rattle.model.specs.Write.{writeAll}
 use Rattle.model.specs.Start.{Startup, startupOr, initialize, initializeRefusal, initializeWrites, storedLine}
@@ -168,11 +169,11 @@ module _ (T : Topology) (store : List ℕ) (accepted : initialize T store .refus
   blank = initialized T store (sized-start T store no-refusal)
 
   blank-word : (p : ℕ) → p < T .processes → slotOf after 0 p .word ≡ 0
-  unfolding slotOf restored restoredBy entriesBy entriesFrom tabulate replay
+  unfolding slotOf restored restoredBy bodiesBy entriesBy entriesFrom tabulate replay
   blank-word p l = rw (blank .counts (messageLog p) l) (blank .physical p l)
 
   blank-log : (c : ℕ) → c < T .channels → heldOf after 0 c .bodies ≡ []
-  unfolding heldOf logged entriesBy entriesFrom tabulate
+  unfolding heldOf logged bodiesBy entriesBy entriesFrom tabulate
   blank-log c l = rw (blank .counts (channelLog c) l)
 
   pub initialize-holds : Inv (initialize T store .state) (initialize T store .store) newHistory

@@ -6,7 +6,7 @@ use mathlib.Core.Option.{Option}
 use lib.ListN.{take}
 use Rattle.model.specs.declared.Entry.{Entry}
 use Rattle.model.specs.Topology.{sender, receiver}
-use Rattle.model.specs.Layout.{cell, messageLog, channelLog, countCell, entriesBy, logged}
+use Rattle.model.specs.Layout.{cell, messageLog, channelLog, countCell, bodiesBy, logged}
 use Rattle.model.specs.State.{GlobalState}
 use Rattle.model.specs.Start.{restored, restoredBy}
 use Rattle.model.specs.History.{Event, History, Direction, sent, received, bodiesOn}
@@ -82,7 +82,7 @@ unfoldable pub heldOf : List ℕ → ℕ → ℕ → Held
 heldOf st n c = record { bodies = logged st n (channelLog c); count = cell st (countCell n (channelLog c)) }
 
 unfoldable pub heldBy : List ℕ → ℕ → ℕ → ℕ → Held
-heldBy st n k c = record { bodies = entriesBy st n (channelLog c) k; count = cell st (countCell n (channelLog c)) }
+heldBy st n k c = record { bodies = bodiesBy st n (channelLog c) k; count = cell st (countCell n (channelLog c)) }
 
 module _ (s : GlobalState) (st : List ℕ) (h : History) where
   abbrev pub processAt : ℕ → Process

@@ -4,10 +4,13 @@ use mathlib.Core.Path.{_≡_, ap}
 use mathlib.Core.List.{List}
 use lib.ListN.{length}
 use native.Mathlib.Omega.{arith}
+use native.Mathlib.Nat.{mul-le-mul-left}
 use Rattle.model.specs.declared.Topology.{Topology}
 use Rattle.model.specs.Layout.{lineCell, slotCells, slot, processRecord, channelRecord, physicalCell, Log}
-use Rattle.model.specs.Layout.{processCells, channelCells, messageLog, channelLog, places, countCell, entryCell}
+use Rattle.model.specs.Layout.{processCells, channelCells, messageLog, channelLog, places, entryCells, countCell}
+use Rattle.model.specs.Layout.{entryCell}
 use Rattle.model.proofs.laws.TopologyLaws.{Planned}
+use Rattle.model.proofs.store.Entries.{entry-ends}
 use Rattle.model.proofs.store.Sizes.{Sized}
 
 -- cell a belongs to the slot for line n
@@ -15,13 +18,22 @@ pub record Within (n a : ℕ) : Type 0 where
   pub from : slot n ≤ a
   pub to : a < slot n + slotCells
 
--- cell a belongs to a log for line n: its count, or one of its places
-pub record Of (n : ℕ) (log : Log) (a : ℕ) : Type 0 where
-  pub from : countCell n log ≤ a
-  pub to : a ≤ countCell n log + places log
+-- the first cell of place i of a log, for line n
+abbrev pub placeAt : ℕ → Log → ℕ → ℕ
+placeAt n log i = entryCell (entryCells log) (countCell n log) i
 
-pub entry-of : (n : ℕ) (log : Log) (i : ℕ) → i < places log → Of n log (entryCell (countCell n log) i)
-entry-of n log i l = omega arith
+-- cell a belongs to a log for line n: its count, or one of its first k places
+pub record Upto (n : ℕ) (log : Log) (k a : ℕ) : Type 0 where
+  pub from : countCell n log ≤ a
+  pub to : a < placeAt n log k
+
+-- .. or any of them
+abbrev pub Of : ℕ → Log → ℕ → Type 0
+Of n log a = Upto n log (places log) a
+
+pub upto-more : (n : ℕ) (log : Log) (k m a : ℕ) → k ≤ m → Upto n log k a → Upto n log m a
+upto-more n log k m a l h =
+    record { from = h .from; to = omega (arith, h .to, mul-le-mul-left (entryCells log) l) }
 
 -- a log's count stands a fixed number of cells after that of the log before it
 pub message-cell : (n i : ℕ) → countCell n (messageLog 0) + processCells * i ≡ countCell n (messageLog i)
@@ -68,9 +80,13 @@ module _ {T : Topology} {st : List ℕ} (sized : Sized T st) where
   pub count-within : (n : ℕ) (log : Log) → Planned T log → Within n (countCell n log)
   count-within n log planned = log-within n log (countCell n log) planned (omega arith)
 
-  pub entry-within : (n : ℕ) (log : Log) (i : ℕ) → Planned T log → i < places log
-      → Within n (entryCell (countCell n log) i)
-  entry-within n log i planned l = log-within n log (entryCell (countCell n log) i) planned (entry-of n log i l)
+  -- an entry, up to its last cell, is in the store
+  pub entry-inside : (n : ℕ) (log : Log) (i : ℕ) → Planned T log → i < places log
+      → placeAt n log i + entryCells log ≤ length st
+  entry-inside n log i planned l =
+      let last : ℕ = countCell n log + entryCells log * places log in
+      let within : Within n last = log-within n log last planned (omega arith) in
+      omega (arith, in-store n last within, entry-ends (entryCells log) i (places log) l)
 
   -- a cell belongs to one log, and a physical checkpoint's to none
   pub one-log : (n : ℕ) (log other : Log) (a : ℕ) → Planned T log → Planned T other → Of n log a → Of n other a

@@ -1,22 +1,24 @@
 -- What the writes of each step do to what the two slots hold: of a log, its count and its first entries; of a process,
 -- its physical checkpoint besides.
-use Prim.Native.Nat.{ℕ, zero, suc, _+_, _<_, _≤_}
-use mathlib.Core.Path.{_≡_, refl, sym, subst, _∙_}
+use Prim.Native.Nat.{ℕ, _+_, _<_, _≤_}
+use mathlib.Core.Path.{_≡_, refl, sym, subst}
 use mathlib.Core.List.{List, [], _∷_, _++_, List·Memᴰ}
 use lib.ListN.{length, take}
 use native.Mathlib.Omega.{arith}
 use Rattle.model.specs.declared.Topology.{Topology}
-use Rattle.model.specs.Layout.{cell, lineCell, physicalCell, Log, messageLog, places, countCell, entryCell}
-use Rattle.model.specs.Layout.{entriesFrom, entriesBy}
-use Rattle.model.specs.Write.{Write, write, writeAll, clearWrites, physicalWrites, logWrites, commitWrites}
+use Rattle.model.specs.Layout.{cell, lineCell, physicalCell, Log, messageLog, channelLog, places, entryCells}
+use Rattle.model.specs.Layout.{countCell, entryCell, entriesFrom, entriesBy, entryFor, bodiesBy}
+use Rattle.model.specs.Write.{Write, writeAll, clearWrites, physicalWrites, cellWrites, appendWrites, logWrites}
+use Rattle.model.specs.Write.{commitWrites}
 use Rattle.model.specs.Start.{initializeWrites, restoredBy}
-use Rattle.model.proofs.laws.Lists.{tabulate-cong, tabulate-more}
 use Rattle.model.proofs.laws.TopologyLaws.{Planned}
-use Rattle.model.proofs.store.Writes.{Each, each-take, each-map, written, kept, zeroInto, zeroed}
-use Rattle.model.proofs.store.Sizes.{Sized, sized-after}
-use Rattle.model.proofs.store.Addresses.{Within, Of, entry-of, other-within, line-outside, one-physical}
-use Rattle.model.proofs.store.Addresses.{line-in-store, in-store, physical-within, log-within, count-within}
-use Rattle.model.proofs.store.Addresses.{entry-within, one-log, no-log}
+use Rattle.model.proofs.store.Writes.{Each, each-take, each-append, each-map, written, kept, zeroInto, zeroed}
+use Rattle.model.proofs.store.Entries.{entry-ends, Between, entries-same, cells-into, append-counts, appends}
+use Rattle.model.proofs.store.Entries.{append-lost}
+use Rattle.model.proofs.store.Sizes.{Sized}
+use Rattle.model.proofs.store.Addresses.{Within, placeAt, Upto, Of, upto-more, other-within, line-outside}
+use Rattle.model.proofs.store.Addresses.{one-physical, line-in-store, in-store, physical-within, log-within}
+use Rattle.model.proofs.store.Addresses.{count-within, entry-inside, one-log, no-log}
 use Rattle.model.proofs.store.ZeroWrites.{each-clear, in-clear, initialize-zeros, in-line, in-physical, in-count}
 
 -- a log for line n, read with k entries, is the same in two stores
@@ -31,28 +33,20 @@ pub record SameProcess (n p k : ℕ) (st st′ : List ℕ) : Type 0 where
 
 pub restored-same : (n p k : ℕ) {st st′ : List ℕ} → SameProcess n p k st st′
     → restoredBy st′ n p k ≡ restoredBy st n p k
-unfolding restoredBy
+unfolding restoredBy bodiesBy
 restored-same n p k e = rw (e .physical, e .log .entries)
 
--- the cells that are read of a log with k entries
-pub record Read (n : ℕ) (log : Log) (k a : ℕ) : Type 0 where
-  pub own : Of n log a
-  pub to : a ≤ countCell n log + k
-
--- where those are kept, the log is the same
-pub kept-log : (st st′ : List ℕ) (n : ℕ) (log : Log) (k : ℕ) → k ≤ places log
-    → ((a : ℕ) → Read n log k a → cell st′ a ≡ cell st a) → SameLog n log k st st′
-unfolding entriesBy entriesFrom
-kept-log st st′ n log k fits h =
+-- where the cells that are read of a log with k entries are kept, the log is the same
+pub kept-log : (st st′ : List ℕ) (n : ℕ) (log : Log) (k : ℕ) → ((a : ℕ) → Upto n log k a → cell st′ a ≡ cell st a)
+    → SameLog n log k st st′
+unfolding entriesBy
+kept-log st st′ n log k h =
     record {
-      count = h (countCell n log) (record { own = omega arith; to = omega arith });
+      count = h (countCell n log) (record { from = omega arith; to = omega arith });
       entries =
-          tabulate-cong k (λ i. cell st′ (entryCell (countCell n log) i)) (λ i. cell st (entryCell (countCell n log) i))
-          (λ i l. h (entryCell (countCell n log) i) (read i l));
+          entries-same st st′ (entryCells log) (countCell n log) k
+          (λ a b. h a (record { from = omega (arith, b .from); to = b .to }));
     }
-  where
-    read : (i : ℕ) → i < k → Read n log k (entryCell (countCell n log) i)
-    read i l = record { own = entry-of n log i (omega arith); to = omega arith }
 
 -- all the writes go into the slot for line n
 abbrev pub InSlot : ℕ → List Write → Type 0
@@ -62,9 +56,24 @@ InSlot n ws = Each (λ w. Within n (w .cell)) ws
 abbrev pub IntoLog : ℕ → Log → List Write → Type 0
 IntoLog n log ws = Each (λ w. Of n log (w .cell)) ws
 
+-- an entry has its log's number of cells
+entry-length : (log : Log) (body : ℕ) → length (entryFor log body) ≡ entryCells log
+entry-length (messageLog p) body = refl
+entry-length (channelLog c) body = refl
+
 pub log-into : (n : ℕ) (log : Log) (count body : ℕ) → count < places log → IntoLog n log (logWrites n log count body)
-unfolding logWrites
-log-into n log count body l = (omega arith, (omega arith, tt))
+unfolding logWrites appendWrites
+log-into n log count body l =
+    let entry : List ℕ = entryFor log body in
+    let first : ℕ = entryCell (length entry) (countCell n log) count in
+    let hi : ℕ = placeAt n log (places log) in
+    let end : first + length entry ≤ hi = rw (entry-length log body)
+    (omega (arith, entry-ends (entryCells log) count (places log) l)) in
+    each-append (λ w. Of n log (w .cell)) (cellWrites first entry) _
+    (each-map (λ w. Between first hi (w .cell)) (λ w. Of n log (w .cell))
+    (λ w b. record { from = omega (arith, b .from); to = b .to }) (cellWrites first entry)
+    (cells-into first hi first entry (omega arith) end))
+    (omega arith, tt)
 
 -- line 0, physical checkpoints 0, logs empty
 pub record Initialized (T : Topology) (st : List ℕ) : Type 0 where
@@ -76,7 +85,9 @@ module _ (T : Topology) (st : List ℕ) (sized : Sized T st) where
   -- a slot that is kept, read with any counts within the places
   module _ (n : ℕ) (st′ : List ℕ) (h : (a : ℕ) → Within n a → cell st′ a ≡ cell st a) where
     slot-log : (log : Log) → Planned T log → (k : ℕ) → k ≤ places log → SameLog n log k st st′
-    slot-log log planned k fits = kept-log st st′ n log k fits (λ a r. h a (log-within sized n log a planned (r .own)))
+    slot-log log planned k fits =
+        kept-log st st′ n log k
+        (λ a r. h a (log-within sized n log a planned (upto-more n log k (places log) a fits r)))
 
     slot-process : (p : ℕ) → p < T .processes → (k : ℕ) → k ≤ places (messageLog p) → SameProcess n p k st st′
     slot-process p l k fits =
@@ -136,8 +147,10 @@ module _ (T : Topology) (st : List ℕ) (sized : Sized T st) where
     pub physical-log : (log : Log) → Planned T log → (k : ℕ) → k ≤ places log → SameLog n log k st saved
     unfolding physicalWrites
     physical-log log planned k fits =
-        kept-log st saved n log k fits
-        (λ a r. kept st (physicalWrites n p word) a (λ e. no-log sized n p log l planned (rw (← e) (r .own)), tt))
+        kept-log st saved n log k
+        (λ a r.
+        kept st (physicalWrites n p word) a
+        (λ e. no-log sized n p log l planned (rw (← e) (upto-more n log k (places log) a fits r)), tt))
 
     pub physical-other : (q : ℕ) → q < T .processes → (p ≡ q → ⊥) → (k : ℕ) → k ≤ places (messageLog q)
         → SameProcess n q k st saved
@@ -159,8 +172,9 @@ module _ (T : Topology) (st : List ℕ) (sized : Sized T st) where
     pub log-other : (other : Log) → Planned T other → (log ≡ other → ⊥) → (k : ℕ) → k ≤ places other
         → SameLog n other k st (writeAll st ws)
     log-other other p h k fits =
-        kept-log st (writeAll st ws) n other k fits
-        (λ a read. aside a (λ own. h (one-log sized n log other a planned p own (read .own))))
+        kept-log st (writeAll st ws) n other k
+        (λ a read.
+        aside a (λ own. h (one-log sized n log other a planned p own (upto-more n other k (places other) a fits read))))
 
     pub log-physical : (p : ℕ) → p < T .processes
         → cell (writeAll st ws) (physicalCell n p) ≡ cell st (physicalCell n p)
@@ -168,53 +182,35 @@ module _ (T : Topology) (st : List ℕ) (sized : Sized T st) where
 
   -- a logged message: its log is one longer
   module _ (n : ℕ) (log : Log) (count body : ℕ) (planned : Planned T log) (room : count < places log) where
+    abbrev at : ℕ
+    at = countCell n log
+
+    abbrev entry : List ℕ
+    entry = entryFor log body
+
     abbrev after : List ℕ
     after = writeAll st (logWrites n log count body)
 
-    pub log-counted : cell after (countCell n log) ≡ count + 1
-    unfolding logWrites writeAll
-    log-counted =
-        let entry : Write = record { cell = entryCell (countCell n log) count; value = body } in
-        written (write st entry) (record { cell = countCell n log; value = count + 1 })
-        (in-store (sized-after sized (entry ∷ [])) n (countCell n log) (count-within sized n log planned))
+    inside : entryCell (length entry) at count + length entry ≤ length st
+    inside = rw (entry-length log body) (entry-inside sized n log count planned room)
 
-    log-placed : cell after (entryCell (countCell n log) count) ≡ body
-    unfolding logWrites writeAll
-    log-placed =
-        let entry : Write = record { cell = entryCell (countCell n log) count; value = body } in
-        kept (write st entry) (record { cell = countCell n log; value = count + 1 } ∷ [])
-        (entryCell (countCell n log) count) (λ q. omega arith, tt)
-        ∙ written st entry
-        (in-store sized n (entryCell (countCell n log) count) (entry-within sized n log count planned room))
+    pub log-counted : cell after at ≡ count + 1
+    unfolding logWrites
+    log-counted = append-counts st at count entry inside
 
-    pub log-appended : entriesBy after n log (count + 1) ≡ entriesBy st n log count ++ (body ∷ [])
-    unfolding entriesBy entriesFrom logWrites
+    pub log-appended : entriesBy after n log (count + 1) ≡ entriesBy st n log count ++ (entry ∷ [])
+    unfolding entriesBy logWrites
     log-appended =
-        tabulate-more count (λ i. cell after (entryCell (countCell n log) i))
-        ∙ rw (
-          log-placed,
-          tabulate-cong count (λ i. cell after (entryCell (countCell n log) i))
-              (λ i. cell st (entryCell (countCell n log) i)) earlier,
-        )
-      where
-        earlier : (i : ℕ) → i < count
-            → cell after (entryCell (countCell n log) i) ≡ cell st (entryCell (countCell n log) i)
-        earlier i l =
-            kept st (logWrites n log count body) (entryCell (countCell n log) i)
-            (λ q. omega arith, (λ q. omega arith, tt))
+        subst (λ (w : ℕ). entriesFrom after w at (count + 1) ≡ entriesFrom st w at count ++ (entry ∷ []))
+        (entry-length log body) (appends st at count entry inside)
 
     -- power lost before the count is written: the entry that may be there is behind those that are read
     pub log-lost : (b : ℕ) → b < length (logWrites n log count body)
         → SameLog n log count st (writeAll st (take b (logWrites n log count body)))
-    unfolding logWrites writeAll
-    log-lost zero l = kept-log st st n log count (omega arith) (λ a r. refl)
-    log-lost (suc zero) l =
-        kept-log st (writeAll st (take 1 (logWrites n log count body))) n log count (omega arith)
-        (λ a r. kept st (take 1 (logWrites n log count body)) a (beyond a r, tt))
-      where
-        beyond : (a : ℕ) → Read n log count a → a ≡ entryCell (countCell n log) count → ⊥
-        beyond a r e = omega (arith, r .to)
-    log-lost (suc (suc b)) l = absurd (omega arith)
+    unfolding logWrites
+    log-lost b l =
+        kept-log st (writeAll st (take b (logWrites n log count body))) n log count
+        (λ a r. append-lost st at count entry b l a (rw (entry-length log body) (r .to)))
 
   -- commit: the line cell, and no slot
   module _ (n : ℕ) where

@@ -65,6 +65,12 @@ unfolding writeAll write
 length-writeAll st [] = refl
 length-writeAll st (w ∷ ws) = length-writeAll (write st w) ws ∙ length-set st (w .cell) (w .value)
 
+-- one list of writes after another
+pub writeAll-append : (st : List ℕ) (ws vs : List Write) → writeAll st (ws ++ vs) ≡ writeAll (writeAll st ws) vs
+unfolding writeAll
+writeAll-append st [] vs = refl
+writeAll-append st (w ∷ ws) vs = writeAll-append (write st w) ws vs
+
 -- one write: its cell is in the store still and holds its value, and the others are kept
 still-in : (st : List ℕ) (w : Write) (a : ℕ) → a < length st → a < length (write st w)
 unfolding write

@@ -25,14 +25,18 @@ channel-at p =
     (p .before .wrapping-add-u32 .ensures)
     ∙ same-cell (start p .args .line) (channelLog (start p .args .at .channel))
 
+-- the entry into the channel's log, and what led to it
 abbrev first : tie.After-message-count-cell → tie.After-append
 first m = m .before .before .before
 
+abbrev placing : tie.After-append → tie.After-channel-count-cell
+placing f = f .before .before .before
+
 message-at : (m : tie.After-message-count-cell)
-    → let a = start (first m .before .before) .args in
+    → let a = start (placing (first m)) .args in
     m .message-count-cell .result ≡ countCell (a .line + 1) (messageLog (a .at .receiver))
 message-at m =
-    let p = first m .before .before in
+    let p = placing (first m) in
     let a = start p .args in
     m .message-count-cell .ensures
     ∙ ap (λ (n : ℕ). countCell n (messageLog (a .at .receiver))) (p .before .wrapping-add-u32 .ensures)
@@ -40,16 +44,17 @@ message-at m =
 
 append-requires : tie.Need-append-requires
 append-requires c κs = λ needed.
-    let b = start (c .before) in
+    let p = c .before .before in
+    let b = start p in
     let a = b .args in
-    rw (channel-at (c .before))
+    rw (channel-at p)
     (omega (arith, channel-place (a .x) (a .at) (b .pre .0) (b .pre .1) (a .line + 1) needed, b .pre .2))
 
 append-requires-2 : tie.Need-append-requires-2
 append-requires-2 c κs = λ needed.
-    let m = c .before in
+    let m = c .before .before in
     let f = first m in
-    let b = start (f .before .before) in
+    let b = start (placing f) in
     let a = b .args in
     rw (message-at m)
     (omega (
@@ -62,8 +67,11 @@ append-requires-2 c κs = λ needed.
 abbrev second : tie.After-struct-known2 → tie.After-append2
 second c = c .before .before .before .before
 
+abbrev messages : tie.After-append2 → tie.After-message-count-cell
+messages y = y .before .before .before
+
 abbrev reaction : tie.After-struct-known2 → Reaction
-reaction c = start (first (second c .before .before) .before .before) .args .x
+reaction c = start (placing (first (messages (second c)))) .args .x
 
 add-result : tie.Need-add-result
 add-result c = let x = reaction c in omega (arith, a-bit (x .«channel_log»), a-bit (x .«message_log»))
@@ -75,12 +83,13 @@ returns : tie.Need-returns
 unfolding viewReaction
 returns c =
     let y = second c in
-    let m = y .before .before in
+    let m = messages y in
     let f = first m in
-    let a = start (f .before .before) .args in
-    let made = moved (a .x .«channel_log») _ _ _ (a .body) (channel-at (f .before .before)) (f .append .ensures) in
-    let rest = moved (a .x .«message_log») _ _ _ (a .body) (message-at m) (y .append2 .ensures) in
-    let cost = both-cost (a .x .«channel_log») (a .x .«message_log») _ _ _ _ _ in
+    let a = start (placing f) .args in
+    let made = moved (a .x .«channel_log») _ _ _ _ (channel-at (placing f)) (f .append .ensures) in
+    let rest = moved (a .x .«message_log») _ _ _ _ (message-at m) (y .append2 .ensures) in
+    let cost = both-cost (a .x .«channel_log») (a .x .«message_log») _ _ _ _ (a .body) (a .at .channel)
+    (a .at .receiver) in
     rw (both-written (countsIn (a .at)) (a .at .channel) (a .at .receiver) (a .line + 1) (a .body)
     (a .x .«channel_log») (a .x .«message_log»))
     (record { store = spent-then made rest .store; needed = sym cost })
@@ -91,8 +100,10 @@ log-spec =
     (tie.spec
     (λ c κs. search needs)
     (λ c κs. search needs)
+    (λ c. search needs)
     append-requires
     (λ c κs. search needs)
+    (λ c. search needs)
     append-requires-2
     (λ c. search needs)
     (λ c. search needs)

@@ -2,28 +2,33 @@
 use borrow.Author.Needs.{needs}
 use native.Mathlib.Omega.{arith}
 use Prim.Native.Nat.{ℕ, _+_, _-_, _<_, _≤_}
-use mathlib.Core.Path.{_≡_, refl, _∙_}
+use mathlib.Core.Path.{_≡_, refl, sym, ap, _∙_}
+use mathlib.Core.Bool.{false}
 use mathlib.Core.List.{List}
 use lib.ListN.{length, getD, set, length-set, getD-replicate}
 use lib.Seq.{getD-set-same, getD-set-other}
-use Rattle.model.specs.Layout.{cell, entriesFrom}
-use Rattle.model.specs.Channel.{channelRoom}
+use Rattle.model.specs.Layout.{cell, channelEntryCells, entryCell, cellsFrom, entriesFrom, bodyIn}
+use Rattle.model.specs.Channel.{channelRoom, messages}
 use Rattle.model.proofs.laws.Functions.{Indices, indices, same, other}
+use Rattle.model.proofs.laws.Lists.{map-tabulate}
 use Rattle.model.proofs.laws.ChannelLaws.{entries-messages}
 use Rattle.recovery.proofs.log.fill.Statement.{statement}
 use Rattle.recovery.proofs.log.fill.Tie as tie
 
 -- the first n of the list are the bodies of the log whose count stands in the cell at
 abbrev Filled : List ℕ → ℕ → List ℕ → ℕ → Type 0
-Filled bs n store at = (j : ℕ) → j < n → getD bs j 0 ≡ cell store (at + 1 + j)
+Filled bs n store at = (j : ℕ) → j < n → getD bs j 0 ≡ cell store (entryCell channelEntryCells at j)
 
 filled-more : (bs store : List ℕ) (n at : ℕ) → n < length bs → Filled bs n store at
-    → Filled (set bs n (cell store (at + 1 + n))) (n + 1) store at
+    → Filled (set bs n (cell store (entryCell channelEntryCells at n))) (n + 1) store at
 filled-more bs store n at h f j l = go (indices j n)
   where
-    go : Indices j n → getD (set bs n (cell store (at + 1 + n))) j 0 ≡ cell store (at + 1 + j)
-    go (same e) = rw e (getD-set-same bs n (cell store (at + 1 + n)) 0 h)
-    go (other q) = getD-set-other bs n j (cell store (at + 1 + n)) 0 q ∙ f j (omega (arith, q))
+    body : ℕ
+    body = cell store (entryCell channelEntryCells at n)
+
+    go : Indices j n → getD (set bs n body) j 0 ≡ cell store (entryCell channelEntryCells at j)
+    go (same e) = rw e (getD-set-same bs n body 0 h)
+    go (other q) = getD-set-other bs n j body 0 q ∙ f j (omega (arith, q))
 
 abbrev Inv-loop : tie.InvT-loop
 Inv-loop store at n bodies₀ i₀ bodies i = (i ≤ n) × (length bodies ≡ channelRoom) × Filled bodies i store at
@@ -44,13 +49,15 @@ loop-again c =
     (omega arith, simp length-set (l .inv .1), more)
 
 returns : tie.Need-returns Inv-loop μ-loop
-unfolding cell entriesFrom
+unfolding cell cellsFrom entriesFrom
 returns c =
     let l = c .before .loop in
     let a = c .before .before .before .args in
-    entries-messages _ (λ i. cell (a .store .now) (a .at + 1 + i))
+    let entry : ℕ → List ℕ = λ i. cellsFrom (a .store .now) channelEntryCells (entryCell channelEntryCells (a .at) i) in
+    entries-messages _ (λ i. bodyIn (entry i))
     (λ j h. getD-replicate channelRoom j 0 0 (omega arith))
     (λ j h. l .inv .2 j (omega arith))
+    ∙ ap (messages false) (sym (map-tabulate bodyIn _ entry))
 
 pub fill-spec : {M : Type 1} → statement M
 unfolding cell
@@ -63,6 +70,7 @@ fill-spec =
     (λ c. omega arith)
     (λ c. omega arith)
     loop-holds
+    (λ c. omega arith)
     (λ c. omega arith)
     (λ c. omega arith)
     (λ c. omega arith)

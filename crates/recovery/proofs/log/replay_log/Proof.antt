@@ -2,25 +2,32 @@
 use borrow.Author.Needs.{needs}
 use native.Mathlib.Omega.{arith}
 use Prim.Native.Nat.{ℕ, _+_, _-_, _≤_}
-use mathlib.Core.Path.{_≡_, refl, sym, _∙_}
-use mathlib.Core.List.{List}
+use mathlib.Core.Path.{_≡_, refl, sym, ap, _∙_}
+use mathlib.Core.List.{List, map, map-append}
 use Rattle.model.specs.Notation.{tabulate}
 use Rattle.model.specs.Word.{enter, replay}
-use Rattle.model.specs.Layout.{cell, entriesFrom}
+use Rattle.model.specs.Layout.{cell, messageEntryCells, entryCell, cellsFrom, entriesFrom, bodyIn}
 use Rattle.model.proofs.laws.Lists.{tabulate-more}
 use Rattle.model.proofs.laws.HistoryLaws.{replay-snoc}
 use Rattle.recovery.proofs.log.replay_log.Statement.{statement}
 use Rattle.recovery.proofs.log.replay_log.Tie as tie
 
--- one body more
+-- the first i bodies of the log, and one more
+abbrev first : List ℕ → ℕ → ℕ → List ℕ
+first store at i = map bodyIn (entriesFrom store messageEntryCells at i)
+
 replay-more : (store : List ℕ) (at i word : ℕ)
-    → replay word (entriesFrom store at (i + 1))
-    ≡ enter (replay word (entriesFrom store at i)) (cell store (at + 1 + i))
-unfolding entriesFrom
-replay-more store at i word = rw (tabulate-more i (λ j. cell store (at + 1 + j))) (replay-snoc word _ _)
+    → replay word (first store at (i + 1))
+    ≡ enter (replay word (first store at i)) (cell store (entryCell messageEntryCells at i))
+unfolding entriesFrom cellsFrom
+replay-more store at i word =
+    ap (replay word)
+    (ap (map bodyIn) (tabulate-more i (λ j. cellsFrom store messageEntryCells (entryCell messageEntryCells at j)))
+    ∙ map-append bodyIn (entriesFrom store messageEntryCells at i) _)
+    ∙ replay-snoc word (first store at i) _
 
 abbrev Inv-loop : tie.InvT-loop
-Inv-loop store at word n w₀ i₀ w i = (i ≤ n) × (w ≡ replay word (entriesFrom store at i))
+Inv-loop store at word n w₀ i₀ w i = (i ≤ n) × (w ≡ replay word (first store at i))
 
 abbrev μ-loop : tie.MeasureT-loop
 μ-loop store at word n w₀ i₀ w i = n - i
@@ -55,6 +62,7 @@ replay-log-spec =
     (λ c. omega arith)
     (λ c. omega arith)
     loop-holds
+    (λ c. omega arith)
     (λ c. omega arith)
     (λ c. omega arith)
     (λ c. omega arith)

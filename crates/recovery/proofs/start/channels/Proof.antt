@@ -10,9 +10,10 @@ use lib.ListN.{length, getD, length-set}
 use Rattle.model.specs.Channel.{entries, messages}
 use Rattle.model.specs.State.{emptyChannel}
 use Rattle.model.specs.Topology.{channelLimit}
-use Rattle.model.specs.Layout.{cell, Log, channelLog, entriesFrom, entriesBy, logged}
+use Rattle.model.specs.Layout.{cell, Log, channelLog, channelEntryCells, entriesBy, bodiesBy, logged}
 use Rattle.model.proofs.laws.Functions.{filledBelow, filled-none, filled-more}
 use Rattle.model.specs.Start.{storedLine}
+use Rattle.recovery.specs.Starts.{loggedAt}
 use Rattle.recovery.proofs.Recovering.{no-entries}
 use Rattle.recovery.proofs.Recovering.{Readable, readable, last-in-store, channelOf, channels-below}
 use Rattle.recovery.proofs.start.channels.Statement.{statement}
@@ -52,13 +53,13 @@ fill-requires c κs =
     rw (c .channel-count-cell .ensures) (k .fits log (t .if1 .taken), last-in-store k log (t .if1 .taken))
 
 loop-again : tie.Need-loop-again Inv-loop μ-loop
-unfolding storedLine cell logged entriesBy
+unfolding storedLine cell logged bodiesBy entriesBy
 loop-again c =
     let t = c .before .before in
     let l = t .before .before .loop in
     let st = start t .args .store .now in
     let filled : entries (c .fill .result) ≡ channelOf st (at t) = c .fill .ensures
-    ∙ ap (λ (a : ℕ). messages false (entriesFrom st a (cell st a))) (c .before .channel-count-cell .ensures) in
+    ∙ ap (λ (a : ℕ). messages false (loggedAt channelEntryCells st a)) (c .before .channel-count-cell .ensures) in
     let inside : at t < length (l .r) = omega (arith, known (start t) .sized .channels) in (
       omega arith,
       simp length-set (l .inv .1),
