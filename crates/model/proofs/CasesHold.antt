@@ -19,6 +19,7 @@ use Rattle.model.specs.Record as records
 use Rattle.model.specs.Program as program
 use Rattle.model.specs.Run as run
 use Rattle.model.specs.ProgramRuns as runs
+use Rattle.model.specs.CaseLines as lines
 use Rattle.model.specs.Cases as cases
 
 pub starred-hold : map (λ (c : cases.Case). c .got) cases.starred ≡ map (λ (c : cases.Case). c .expected) cases.starred
@@ -59,7 +60,7 @@ unfolding
     program.playedOf program.played program.head
     run.replyTo run.stateAfter run.storeAfter run.next run.run run.firstWorld
     runs.callWith runs.callOf
-    cases.saidWord cases.lineNumbers cases.numbered cases.outputNumbers cases.printed cases.input
-    cases.oneProcess cases.afterSteps cases.answerIn cases.answerLine cases.thenRecover
-    cases.tagNumber cases.entryNumbers cases.thenTags cases.readingNumbers cases.starred
+    lines.saidWord lines.lineNumbers lines.numbered lines.outputNumbers lines.printed lines.afterSteps lines.answerIn
+    lines.answerLine lines.thenRecover lines.tagNumber lines.entryNumbers lines.thenTags lines.readingNumbers
+    cases.input cases.oneProcess cases.starred
 starred-hold = refl

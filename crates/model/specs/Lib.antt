@@ -24,6 +24,7 @@ pub mod ProgramRuns
 pub mod Found
 pub mod Extent
 pub mod Order
+pub mod CaseLines
 pub mod Cases
 pub mod CallList
 pub mod Reduction
