@@ -96,9 +96,9 @@ module _ (s : GlobalState) (st : List ℕ) (h : History) (i : Inv s st h) where
   sends c budget b e =
       let (a, is) = accepted-passes s (Receive c) st budget (rw e) in
       let (rest, first) = received-first s c (s .channel c) b (rw is at e) in
-      let receipts : List ℕ = bodiesOn received c (h .events (receiver (s .topology) c)) in
-      nth-send c (length receipts) (h .events (sender (s .topology) c)) b rest
-      (ap (drop (length receipts)) (i .channels c (a .prior .planned) .now) ∙ drop-append-seam receipts
+      let arrived : List ℕ = bodiesOn received c (h .events (receiver (s .topology) c)) in
+      nth-send c (length arrived) (h .events (sender (s .topology) c)) b rest
+      (ap (drop (length arrived)) (i .channels c (a .prior .planned) .now) ∙ drop-append-seam arrived
       (bodies (s .channel c)) ∙ first)
 
 pub always-found : AlwaysFound

@@ -46,7 +46,7 @@ module _ (s : GlobalState) (st : List ℕ) (h : History) (i : Inv s st h) where
         channels = λ c l.
             let v = i .channels c l in
             record {
-              now = v .now ∙ ap (λ (b : List ℕ). channelAt s st h c .receipts .all ++ b) (sym (same-bodies c l));
+              now = v .now ∙ ap (λ (b : List ℕ). channelAt s st h c .arrived .all ++ b) (sym (same-bodies c l));
               finished = v .finished;
               fits = v .fits;
               round = plain c l ∙ ap (messages false) (sym (same-bodies c l));

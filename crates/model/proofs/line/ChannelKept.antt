@@ -32,14 +32,14 @@ sending es out v =
       receiver = v .receiver;
       count = v .count;
       out = out;
-      receipts = v .receipts;
+      arrived = v .arrived;
       finished = v .finished;
       pending = v .pending;
     }
 
 -- and after a receive; its log has `count` entries then, and the pending slot is `held`
 abbrev pub leaving : List Entry → Seen → ℕ → Held → Channel → Channel
-leaving es receipts count held v =
+leaving es arrived count held v =
     record {
       entries = es;
       sent = v .sent;
@@ -48,7 +48,7 @@ leaving es receipts count held v =
       receiver = v .receiver;
       count = count;
       out = v .out;
-      receipts = receipts;
+      arrived = arrived;
       finished = v .finished;
       pending = held;
     }
@@ -82,8 +82,8 @@ module _ (t : Bool) (p : ℕ) (x : Process) (v : Channel) where
           now =
               sees sent c (x .book .events) (sentOn c b) (sent-on c b)
               ∙ ap (λ (l : List ℕ). l ++ (b ∷ [])) (ap (λ (o : Seen). o .all) (sym is) ∙ i .now)
-              ∙ append-assoc (v .receipts .all) (bodies (v .entries)) (b ∷ [])
-              ∙ ap (λ (l : List ℕ). v .receipts .all ++ l) (sym (bodies-append (v .entries) (Message b (x .tag) ∷ [])));
+              ∙ append-assoc (v .arrived .all) (bodies (v .entries)) (b ∷ [])
+              ∙ ap (λ (l : List ℕ). v .arrived .all ++ l) (sym (bodies-append (v .entries) (Message b (x .tag) ∷ [])));
           finished =
               line-longer (bodiesOn sent c) (x .book) (sentOn c b) (whole ph a)
               ∙ ap (λ (o : Seen). o .line) (sym is) ∙ i .finished;
@@ -114,12 +114,12 @@ module _ (t : Bool) (p : ℕ) (x : Process) (v : Channel) where
 
   -- a message received: the first of the entries
   module _ (c b : ℕ) (u : Bool) (es : List Entry) (first : v .entries ≡ Message b u ∷ es)
-      (is : v .receipts ≡ seenOf received c (x .book)) where
-    abbrev receipts′ : Seen
-    receipts′ = seenOf received c (longer (receivedOn c b) (x .book))
+      (is : v .arrived ≡ seenOf received c (x .book)) where
+    abbrev arrived′ : Seen
+    arrived′ = seenOf received c (longer (receivedOn c b) (x .book))
 
     channel-received : (ph : Phase) (count : ℕ) (held : Held) → ProcessHolds t ph p x → ChannelHolds t ph v
-        → ChannelIn t ph (leaving es receipts′ count held v) → ChannelHolds t ph (leaving es receipts′ count held v)
+        → ChannelIn t ph (leaving es arrived′ count held v) → ChannelHolds t ph (leaving es arrived′ count held v)
     unfolding seenOf bodies tagged before
     channel-received ph count held a i round =
         record {
@@ -146,11 +146,11 @@ module _ (t : Bool) (p : ℕ) (x : Process) (v : Channel) where
         sym first ∙ plain ∙ ap (λ (l : List Entry). messages t (bodies l)) first in cc
 
     pub left-idle : ProcessHolds t Idle p x → ChannelHolds t Idle v
-        → ChannelHolds t Idle (leaving es receipts′ (v .count) (v .pending) v)
+        → ChannelHolds t Idle (leaving es arrived′ (v .count) (v .pending) v)
     left-idle a i = channel-received Idle (v .count) (v .pending) a i (plain-rest (i .round))
 
     pub left-physical : (next : ℕ) → ProcessHolds t (Physical next) p x → ChannelHolds t (Physical next) v
-        → ChannelHolds t (Physical next) (leaving es receipts′ (v .count) (v .pending) v)
+        → ChannelHolds t (Physical next) (leaving es arrived′ (v .count) (v .pending) v)
     left-physical next a i =
         channel-received (Physical next) (v .count) (v .pending) a i
         (record { plain = plain-rest (i .round .plain); empty = i .round .empty; counted = i .round .counted })
@@ -158,27 +158,27 @@ module _ (t : Bool) (p : ℕ) (x : Process) (v : Channel) where
     -- in the logical phase, by whether the receiver has its logical checkpoint and whether the message is old
     module _ (a : ProcessHolds t Logical p x) (flag : v .receiver ≡ x .logical) (i : ChannelHolds t Logical v) where
       balanced : Balanced t (v .sender) (v .receiver) (v .sent) (v .closed) (Message b u ∷ es) (v .pending .bodies)
-          (v .out .mark) (v .receipts .mark)
+          (v .out .mark) (v .arrived .mark)
       balanced = rw (← first) (i .round .balanced)
 
       -- what stood before the mark stands before it
-      same-mark : x .logical ≡ true → receipts′ .mark ≡ v .receipts .mark
+      same-mark : x .logical ≡ true → arrived′ .mark ≡ v .arrived .mark
       unfolding seenOf
       same-mark e =
           ap (bodiesOn received c) (before-longer (x .book .events) (receivedOn c b) refl (a .round .mark) e)
           ∙ ap (λ (o : Seen). o .mark) (sym is)
 
       pub left-before : x .logical ≡ false → u ≡ t
-          → ChannelHolds t Logical (leaving es receipts′ (v .count) (v .pending) v)
+          → ChannelHolds t Logical (leaving es arrived′ (v .count) (v .pending) v)
       unfolding seenOf before
       left-before e old =
-          let grown : receipts′ .mark ≡ v .receipts .mark ++ (b ∷ []) =
+          let grown : arrived′ .mark ≡ v .arrived .mark ++ (b ∷ []) =
           rw (is, no-mark (a .round .mark) e) (sees received c (x .book .events) (receivedOn c b) (received-on c b)) in
           channel-received Logical (v .count) (v .pending) a i
           (record { balanced = rw grown (receive-old-before balanced old (flag ∙ e)); counted = i .round .counted })
 
       pub left-new : x .logical ≡ true → u ≡ not t
-          → ChannelHolds t Logical (leaving es receipts′ (v .count) (v .pending) v)
+          → ChannelHolds t Logical (leaving es arrived′ (v .count) (v .pending) v)
       left-new e new =
           channel-received Logical (v .count) (v .pending) a i
           (record {
@@ -187,7 +187,7 @@ module _ (t : Bool) (p : ℕ) (x : Process) (v : Channel) where
           })
 
       pub left-logged : x .logical ≡ true → u ≡ t
-          → ChannelHolds t Logical (leaving es receipts′ (v .count + 1) (loggedHeld b v) v)
+          → ChannelHolds t Logical (leaving es arrived′ (v .count + 1) (loggedHeld b v) v)
       left-logged e old =
           channel-received Logical (v .count + 1) (loggedHeld b v) a i
           (record { balanced = rw (same-mark e) (receive-old-logged balanced old (flag ∙ e)); counted = refl })

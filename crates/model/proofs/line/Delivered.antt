@@ -104,11 +104,11 @@ module _ (s : GlobalState) (st : List ℕ) (h : History) (i : Inv s st h) (ends 
 
     pub delivered-holds : ReceiverHolds → ChannelTaken → Inv delivered st′ (addEvent r event h)
     unfolding enterBody setEntries withChannel withWord withCounts
-    delivered-holds receives receipts =
+    delivered-holds receives arrived =
         record {
           sized = kept .sized;
           stored = kept .line ∙ i .stored;
           tag = i .tag;
           processes = processes receives;
-          channels = channels receipts;
+          channels = channels arrived;
         }

@@ -74,7 +74,7 @@ pub record PhysicalChannel (t : Bool) (v : Channel) : Type 0 where
 -- The logical phase: it balances (ChannelState).
 pub record LogicalChannel (t : Bool) (v : Channel) : Type 0 where
   pub balanced : Balanced t (v .sender) (v .receiver) (v .sent) (v .closed) (v .entries) (v .pending .bodies)
-      (v .out .mark) (v .receipts .mark)
+      (v .out .mark) (v .arrived .mark)
   pub counted : v .count ≡ v .pending .count
 
 abbrev pub ChannelIn : Bool → Phase → Channel → Type 0
@@ -84,9 +84,9 @@ ChannelIn t Logical v = LogicalChannel t v
 
 pub record ChannelHolds (t : Bool) (phase : Phase) (v : Channel) : Type 0 where
   -- what was sent was received or is on it
-  pub now : v .out .all ≡ v .receipts .all ++ bodies (v .entries)
+  pub now : v .out .all ≡ v .arrived .all ++ bodies (v .entries)
   -- what was sent up to the line was received up to it or is in its log
-  pub finished : v .out .line ≡ v .receipts .line ++ v .finished .bodies
+  pub finished : v .out .line ≡ v .arrived .line ++ v .finished .bodies
   pub fits : v .finished .count ≤ channelPlaces
   pub round : ChannelIn t phase v
 

@@ -38,7 +38,7 @@ flagged a r v =
       receiver = r;
       count = v .count;
       out = v .out;
-      receipts = v .receipts;
+      arrived = v .arrived;
       finished = v .finished;
       pending = v .pending;
     }

@@ -34,7 +34,7 @@ marked v =
       receiver = v .receiver;
       count = v .count;
       out = v .out;
-      receipts = v .receipts;
+      arrived = v .arrived;
       finished = v .finished;
       pending = v .pending;
     }
@@ -46,7 +46,7 @@ channel-marked {v = v} a z i =
     record {
       now =
           i .now
-          ∙ ap (λ (l : List ℕ). v .receipts .all ++ l) (sym (bodies-append (v .entries) (Marker ∷ []) ∙ append-nil _));
+          ∙ ap (λ (l : List ℕ). v .arrived .all ++ l) (sym (bodies-append (v .entries) (Marker ∷ []) ∙ append-nil _));
       finished = i .finished;
       fits = i .fits;
       round = record { balanced = send-marker a z (i .round .balanced); counted = i .round .counted };

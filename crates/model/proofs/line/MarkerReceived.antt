@@ -36,7 +36,7 @@ shut es v =
       receiver = v .receiver;
       count = v .count;
       out = v .out;
-      receipts = v .receipts;
+      arrived = v .arrived;
       finished = v .finished;
       pending = v .pending;
     }

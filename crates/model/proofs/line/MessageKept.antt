@@ -73,12 +73,12 @@ module _ (s : GlobalState) (st : List ℕ) (h : History) (i : Inv s st h) (ends 
   abbrev channel : Channel
   channel = channelAt s st h c
 
-  abbrev receipts : Seen
-  receipts = seenOf received c (longer (receivedOn c b) (bookOf h r))
+  abbrev arrived : Seen
+  arrived = seenOf received c (longer (receivedOn c b) (bookOf h r))
 
   -- in no log
   pub unlogged : Receives (receiving c b (process .count) (process .pending) process)
-      → Leaves (leaving es receipts (channel .count) (channel .pending) channel)
+      → Leaves (leaving es arrived (channel .count) (channel .pending) channel)
       → Inv (enterBody r (Message b u) (setEntries c es (withCounts (s .counts) s))) st (addEvent r (receivedOn c b) h)
   unlogged receives leaves =
       delivered-holds s st h i ends c b u es l (s .counts) st (none-spared i) (λ q k o. (refl, refl))
@@ -88,7 +88,7 @@ module _ (s : GlobalState) (st : List ℕ) (h : History) (i : Inv s st h) (ends 
   module _ (fits : Fits (s .topology) (s .counts))
       (told : onMessage (s .topology) c b h ≡ addEvent r (receivedOn c b) h) where
     pub message-unlogged : Receives (receiving c b (process .count) (process .pending) process)
-        → Leaves (leaving es receipts (channel .count) (channel .pending) channel)
+        → Leaves (leaving es arrived (channel .count) (channel .pending) channel)
         → Both s st h c (receiveBy (logsOnly []) s c (Message b u) es)
     unfolding react logsOnly raisedAll logsWrites writeAll receivedOutcome onStep onAccepted onReceive accepted
     message-unlogged receives leaves =
@@ -97,7 +97,7 @@ module _ (s : GlobalState) (st : List ℕ) (h : History) (i : Inv s st h) (ends 
     -- in the receiver's message log
     pub message-logged : s .counts .messages r < messagePlaces
         → Receives (receiving c b (process .count + 1) (loggedSlot b process) process)
-        → Leaves (leaving es receipts (channel .count) (channel .pending) channel)
+        → Leaves (leaving es arrived (channel .count) (channel .pending) channel)
         → Both s st h c (receiveBy (logsOnly (messageLog r ∷ [])) s c (Message b u) es)
     unfolding react logsOnly raisedAll raised logsWrites logWrites appendWrites cellWrites nextLine receivedOutcome
         onStep onAccepted onReceive accepted
@@ -125,7 +125,7 @@ module _ (s : GlobalState) (st : List ℕ) (h : History) (i : Inv s st h) (ends 
     -- in the channel's log
     pub channel-logged : s .counts .channels c < channelPlaces
         → Receives (receiving c b (process .count) (process .pending) process)
-        → Leaves (leaving es receipts (channel .count + 1) (loggedHeld b channel) channel)
+        → Leaves (leaving es arrived (channel .count + 1) (loggedHeld b channel) channel)
         → Both s st h c (receiveBy (logsOnly (channelLog c ∷ [])) s c (Message b u) es)
     unfolding react logsOnly raisedAll raised logsWrites logWrites appendWrites cellWrites nextLine receivedOutcome
         onStep onAccepted onReceive accepted

@@ -72,11 +72,11 @@ module _ (T : Topology) (c b : ℕ) (h : History) {t a r s k u : Bool} {es : Lis
   abbrev out : List ℕ
   out = bodiesOn sent c (before (h .mark (sender T c)) (h .events (sender T c)))
 
-  abbrev receipts : List ℕ
-  receipts = bodiesOn received c (h .events (receiver T c))
+  abbrev arrived : List ℕ
+  arrived = bodiesOn received c (h .events (receiver T c))
 
   -- all that it has received is before a mark
-  balance : out ≡ receipts ++ (log ++ l .before)
+  balance : out ≡ arrived ++ (log ++ l .before)
   unfolding before
   balance = rw receiver-unmarked at (l .balance)
 
@@ -84,15 +84,15 @@ module _ (T : Topology) (c b : ℕ) (h : History) {t a r s k u : Bool} {es : Lis
   unfolding sentAfterMark lookedAt
   old-is-early e =
       let (rest, is, shape) = old-first (l .shape) e in
-      let q : out ≡ receipts ++ (log ++ (b ∷ rest)) = rw is at balance in
-      early-send c (length receipts) (h .events (sender T c)) sender-marked
-      (omega (arith, ap length q, length-append receipts (log ++ (b ∷ rest)), length-append log (b ∷ rest)))
+      let q : out ≡ arrived ++ (log ++ (b ∷ rest)) = rw is at balance in
+      early-send c (length arrived) (h .events (sender T c)) sender-marked
+      (omega (arith, ap length q, length-append arrived (log ++ (b ∷ rest)), length-append log (b ∷ rest)))
 
   pub new-is-late : u ≡ not t → r ≡ false → a ≡ true
-      → bodiesOn sent c (h .events (sender T c)) ≡ receipts ++ bodies (Message b u ∷ es) → sentAfterMark T c h ≡ true
+      → bodiesOn sent c (h .events (sender T c)) ≡ arrived ++ bodies (Message b u ∷ es) → sentAfterMark T c h ≡ true
   unfolding sentAfterMark lookedAt bodies
   new-is-late e z y flow =
-      let q : out ≡ receipts ++ [] = rw (l .unlogged z, new-first (l .shape) e .0) at balance in
-      late-send c (length receipts) (h .events (sender T c)) refl sender-marked y
-      (omega (arith, ap length q, length-append receipts []))
-      (omega (arith, ap length flow, length-append receipts (b ∷ bodies es)))
+      let q : out ≡ arrived ++ [] = rw (l .unlogged z, new-first (l .shape) e .0) at balance in
+      late-send c (length arrived) (h .events (sender T c)) refl sender-marked y
+      (omega (arith, ap length q, length-append arrived []))
+      (omega (arith, ap length flow, length-append arrived (b ∷ bodies es)))

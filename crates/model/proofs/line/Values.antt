@@ -56,7 +56,7 @@ pub record Channel : Type 0 where
   pub receiver : Bool
   pub count : ℕ
   pub out : Seen
-  pub receipts : Seen
+  pub arrived : Seen
   pub finished : Held
   pub pending : Held
 
@@ -107,7 +107,7 @@ module _ (s : GlobalState) (st : List ℕ) (h : History) where
         receiver = s .progress .logical (receiver (s .topology) c);
         count = s .counts .channels c;
         out = seenOf sent c (bookOf h (sender (s .topology) c));
-        receipts = seenOf received c (bookOf h (receiver (s .topology) c));
+        arrived = seenOf received c (bookOf h (receiver (s .topology) c));
         finished = heldOf st (s .round .line) c;
         pending = heldBy st (s .round .line + 1) (s .counts .channels c) c;
       }
