@@ -134,7 +134,7 @@ fn marker(mut s: State, at: usize) -> Answer {
 fn unlogged(mut s: State, at: usize, body: u32) -> Answer {
     let to = s.topology.to[at] as usize;
     s.channels[at] = pop(s.channels[at]);
-    s.words[to] = enter(s.words[to], body);
+    s.words[to] = enter(s.words[to], at as u32, body);
     if s.round.phase == Phase::Logical && !s.flags.logical[to] {
         s = set_logical(s, to);
     }
@@ -147,17 +147,23 @@ fn logged(mut s: State, at: usize, body: u32, log: Log, store: &mut [u32], budge
         return refused(Refusal::LogFull, s);
     }
     let cell = count_cell(s.round.line + 1, log);
+    let cells = entry_cells(log);
+    let place = cell + 1 + cells * count as usize;
     let mut left = budget;
-    put(store, &mut left, cell + 1 + count as usize, body);
+    put(store, &mut left, place, body);
+    if let Log::Messages(_) = log {
+        put(store, &mut left, place + 1, at as u32);
+    }
     put(store, &mut left, cell, count as u32 + 1);
-    if budget < 2 {
+    let writes = cells as u32 + 1;
+    if budget < writes {
         return power_lost(budget, s);
     }
     let to = s.topology.to[at] as usize;
     s.channels[at] = pop(s.channels[at]);
-    s.words[to] = enter(s.words[to], body);
+    s.words[to] = enter(s.words[to], at as u32, body);
     s.counts = raised(s.counts, log);
-    Answer { outcome: Outcome::Received(body), made: 2, state: s }
+    Answer { outcome: Outcome::Received(body), made: writes, state: s }
 }
 
 fn raised(mut counts: Counts, log: Log) -> Counts {

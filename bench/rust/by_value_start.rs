@@ -42,8 +42,7 @@ fn words(t: Topology, store: &[u32]) -> [u32; PROCESSES] {
     let mut words = [0; PROCESSES];
     for p in 0..t.processes as usize {
         let word = store[physical_cell(line, p)];
-        let bodies = log(store, message_count_cell(line, p));
-        words[p] = bodies.iter().fold(word, |word, &body| enter(word, body));
+        words[p] = replay(word, store, message_count_cell(line, p));
     }
     words
 }
@@ -52,7 +51,7 @@ fn channels(t: Topology, store: &[u32]) -> [Channel; CHANNELS] {
     let line = store[LINE_CELL];
     let mut channels = [EMPTY; CHANNELS];
     for c in 0..t.channels as usize {
-        channels[c] = filled(log(store, channel_count_cell(line, c)));
+        channels[c] = filled(bodies(store, channel_count_cell(line, c)));
     }
     channels
 }

@@ -3,10 +3,10 @@
 
 use crate::engine::Engine;
 use crate::reduce::{reduce, CallList, Found, Reduced};
+use crate::rules::STORE_CELLS;
 use crate::types::*;
 use std::io::Read;
 
-const CELLS: usize = 3265;
 const STEPS: u8 = 1;
 const RECOVER: u8 = 2;
 const READ: u8 = 3;
@@ -76,7 +76,7 @@ fn checksum(sum: u32, s: &State, store: &[u32]) -> u32 {
 }
 
 fn steps<E: Engine>(t: &Topology, times: u32, script: &[u8]) -> u32 {
-    let mut store = [0; CELLS];
+    let mut store = [0; STORE_CELLS];
     let mut engine = E::initialize(t, &mut store);
     let mut sum = 0;
     for turn in 0..times {
@@ -89,7 +89,7 @@ fn steps<E: Engine>(t: &Topology, times: u32, script: &[u8]) -> u32 {
 }
 
 fn recovers<E: Engine>(t: &Topology, times: u32, cells: &[u8]) -> u32 {
-    let mut store = [0; CELLS];
+    let mut store = [0; STORE_CELLS];
     let mut engine = E::initialize(t, &mut store);
     for (cell, b) in store.iter_mut().zip(cells.chunks_exact(4)) {
         *cell = number(b);

@@ -133,21 +133,26 @@ impl State {
             return Ok(Outcome::ReceivedMarker);
         };
         if let Some(log) = log_for(self, at, tag) {
-            self.append(log, body, power)?;
+            self.append(log, at, body, power)?;
         } else if logical && !self.flags.logical[to] {
             self.set_logical(to);
         }
         self.channels[at].pop();
-        self.words[to] = enter(self.words[to], body);
+        self.words[to] = enter(self.words[to], at as u32, body);
         Ok(Outcome::Received(body))
     }
 
-    /// The body and the raised count into the log, or 11.
-    fn append(&mut self, log: Log, body: u32, power: &mut Power) -> Result<(), Stop> {
+    /// The entry and the raised count into the log, or 11.
+    fn append(&mut self, log: Log, at: usize, body: u32, power: &mut Power) -> Result<(), Stop> {
         let count = count_of(&self.counts, log);
         require(count < room(log), Refusal::LogFull)?;
         let cell = count_cell(self.round.line + 1, log);
-        power.put(cell + 1 + count as usize, body)?;
+        let cells = entry_cells(log);
+        let place = cell + 1 + cells * count as usize;
+        power.put(place, body)?;
+        if let Log::Messages(_) = log {
+            power.put(place + 1, at as u32)?;
+        }
         power.put(cell, count as u32 + 1)?;
         match log {
             Log::Messages(p) => self.counts.messages[p] += 1,
@@ -252,11 +257,10 @@ impl State {
         *self = State::idle(*t, line);
         for p in 0..t.processes as usize {
             let word = store[physical_cell(line, p)];
-            let bodies = log(store, message_count_cell(line, p));
-            self.words[p] = bodies.iter().fold(word, |word, &body| enter(word, body));
+            self.words[p] = replay(word, store, message_count_cell(line, p));
         }
         for c in 0..t.channels as usize {
-            let bodies = log(store, channel_count_cell(line, c));
+            let bodies = bodies(store, channel_count_cell(line, c));
             self.channels[c].bodies[..bodies.len()].copy_from_slice(bodies);
             self.channels[c].count = bodies.len() as u8;
         }

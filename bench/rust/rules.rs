@@ -1,19 +1,20 @@
 //! What both Rust programs read alike: the layout of the store, the checks of a topology, of a state and of a store's
-//! counts, the word rule, and which log a message needs. Each looks at its arguments through `&`.
+//! counts, the word rule, and which log a message needs. Each looks at its arguments through `&`. A receipt is the
+//! channel and the body that a receive brings; a message log has receipts, a channel log bodies.
 
 use crate::types::*;
 
-pub const STORE_CELLS: usize = 3265;
+pub const STORE_CELLS: usize = 5313;
 pub const LINE_CELL: usize = 0;
 pub const MESSAGE_PLACES: u8 = 64;
 pub const CHANNEL_PLACES: u8 = 8;
 
 fn slot(line: u32) -> usize {
-    1 + 1632 * (line % 2) as usize
+    1 + 2656 * (line % 2) as usize
 }
 
 pub fn physical_cell(line: u32, process: usize) -> usize {
-    slot(line) + 66 * process
+    slot(line) + 130 * process
 }
 
 pub fn message_count_cell(line: u32, process: usize) -> usize {
@@ -21,11 +22,13 @@ pub fn message_count_cell(line: u32, process: usize) -> usize {
 }
 
 pub fn channel_count_cell(line: u32, channel: usize) -> usize {
-    slot(line) + 1056 + 9 * channel
+    slot(line) + 2080 + 9 * channel
 }
 
-pub fn enter(word: u32, body: u32) -> u32 {
-    word.wrapping_mul(31).wrapping_add(body)
+/// The word after a receipt.
+pub fn enter(word: u32, channel: u32, body: u32) -> u32 {
+    let with_channel = word.wrapping_mul(31).wrapping_add(channel);
+    with_channel.wrapping_mul(31).wrapping_add(body)
 }
 
 /// Refusals 1 to 5, in one pass over the channels: the table says which ends an earlier one has.
@@ -91,8 +94,14 @@ pub fn check_store(t: &Topology, store: &[u32]) -> Result<(), Refusal> {
     Ok(())
 }
 
-/// The log whose count stands in a cell: its bodies.
-pub fn log(store: &[u32], at: usize) -> &[u32] {
+/// A word after the receipts, each a body and a channel, of the message log whose count stands in a cell.
+pub fn replay(word: u32, store: &[u32], at: usize) -> u32 {
+    let (receipts, _) = store[at + 1..at + 1 + 2 * store[at] as usize].as_chunks();
+    receipts.iter().fold(word, |word, &[body, channel]| enter(word, channel, body))
+}
+
+/// The bodies of the channel log whose count stands in a cell.
+pub fn bodies(store: &[u32], at: usize) -> &[u32] {
     &store[at + 1..at + 1 + store[at] as usize]
 }
 
@@ -127,6 +136,14 @@ pub fn room(log: Log) -> u8 {
     match log {
         Log::Messages(_) => MESSAGE_PLACES,
         Log::Channel(_) => CHANNEL_PLACES,
+    }
+}
+
+/// Cells of an entry: a message log has the body and the channel, a channel log the body alone.
+pub fn entry_cells(log: Log) -> usize {
+    match log {
+        Log::Messages(_) => 2,
+        Log::Channel(_) => 1,
     }
 }
 

@@ -14,7 +14,7 @@ type Case = (&'static str, fn() -> bool);
 
 /// Tries every case: how many there are, or the names of those that fail.
 pub fn all() -> Result<usize, Vec<&'static str>> {
-    let cases: [Case; 20] = [
+    let cases: [Case; 22] = [
         ("the listing", listing),
         ("one board gives line 1", one_board),
         ("8th entry passes, 9th send is 9; empty wire is 10", wire_full),
@@ -23,6 +23,8 @@ pub fn all() -> Result<usize, Vec<&'static str>> {
         ("finish with 0 and 1 stores", finish_cut),
         ("begin with 3 and 4 stores", begin_cut),
         ("words", words),
+        ("words by which wire was first", wire_order),
+        ("a logged wire of any number", any_wire),
         ("records", records),
         ("0 and 17 boards are 1, 16 pass", boards),
         ("give up after step 6", give_up),
@@ -146,9 +148,32 @@ fn begin_cut() -> bool {
 }
 
 fn words() -> bool {
-    taken(u32::MAX, 1) == 4_294_967_266
-        && taken(taken(0, 2), 3) == 65
-        && taken(taken(0, 3), 2) == 95
+    taken(u32::MAX, 0, 1) == 4_294_966_336
+        && taken(taken(0, 0, 2), 0, 3) == 1_925
+        && taken(taken(0, 0, 3), 0, 2) == 2_885
+}
+
+/// M-101's words, as they are taken and as they are replayed.
+fn wire_order() -> bool {
+    [([0, 1], 4_841), ([1, 0], 34_601)].into_iter().all(|(order, word)| {
+        let mut rig = Rig::new(3, &[(1, 0), (2, 0)]);
+        let copied = rig.done(&[Step::Begin, copy(0), send(0, 5), send(1, 5)]);
+        let logged = order.iter().all(|&channel| rig.step(receive(channel)) == Outcome::Took(5));
+        let steps = [copy(1), copy(2), mark(0), mark(1), mark(2), note(0), note(1)];
+        let closed = rig.done(&steps)
+            && [0, 1].iter().all(|&channel| rig.step(receive(channel)) == Outcome::Marker);
+        let finished = rig.done(&[Step::Commit]);
+        let words = [rig.state.words[0], rig.recovered().words[0]];
+        copied && logged && closed && finished && words == [word; 2]
+    })
+}
+
+/// A restart looks at counts alone: it enters the wire of an entry as it stands.
+fn any_wire() -> bool {
+    let mut rig = Rig::pair();
+    let log = store::message_log(0, 0);
+    rig.store[log..log + 3].copy_from_slice(&[1, 5, u32::MAX]);
+    rig.recovered().words[0] == 4_294_967_270
 }
 
 fn records() -> bool {

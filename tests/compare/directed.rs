@@ -23,7 +23,7 @@ fn list(name: String, program: Program, bytes: Vec<u8>) -> List {
     List { name, program, bytes }
 }
 
-/// Those that are about calls: refusals, rounds, power lost in each step, and full logs.
+/// Those that are about calls: refusals, rounds, power lost in each step, which wire is first, and full logs.
 pub fn calls() -> Vec<List> {
     let mut lists = Vec::new();
     for program in BOTH {
@@ -32,8 +32,10 @@ pub fn calls() -> Vec<List> {
         let bytes = encode(program, &pair(), &rounds(12));
         lists.push(list(format!("{program:?}: twelve rounds"), program, bytes));
     }
-    cuts(&mut lists);
+    begin_cuts(&mut lists);
+    round_cuts(&mut lists);
     for program in BOTH {
+        wire_orders(&mut lists, program);
         let bytes = encode(program, &plans::largest(), &full_logs());
         lists.push(list(format!("{program:?}: every log full, twice"), program, bytes));
     }
@@ -224,36 +226,62 @@ fn refusals() -> Vec<Call> {
     calls
 }
 
-/// Power lost after every count of stores of every step that stores: begin on
-/// the largest plan, and each step of a round on a pair, with and without a
-/// recover after it.
-fn cuts(lists: &mut Vec<List>) {
-    let begin = Record::Step(Step::Begin);
+/// Two neighbours' equal bodies, taken in either order at every place of a round
+/// before its notes. Then a recover.
+fn wire_orders(lists: &mut Vec<List>, program: Program) {
+    let topology = Topology { processes: 3, channels: vec![(1, 0), (2, 0)] };
+    let send = |channel| full(Step::Send { channel, body: 5 });
+    let receive = |channel| full(Step::Receive { channel });
+    let round: Vec<Call> = copies(3).chain(end_round(&topology, 0)).collect();
+    let before_notes = 1 + 2 * topology.processes;
+    for at in 0..=before_notes {
+        for order in [[0, 1], [1, 0]] {
+            let (before, after) = round.split_at(at);
+            let (sends, receives) = ([0, 1].map(send), order.map(receive));
+            let calls = [&sends, before, &receives, after, &[(0, Record::Recover)]].concat();
+            let bytes = encode(program, &topology, &calls);
+            let name = format!("{program:?}: wires {order:?} taken before call {at} of a round");
+            lists.push(list(name, program, bytes));
+        }
+    }
+}
+
+/// Power lost after every count of stores of a begin on the largest plan, with
+/// and without a recover after it.
+fn begin_cuts(lists: &mut Vec<List>) {
     for recover in [false, true] {
         let mut calls = Vec::new();
         for budget in 0..=80 {
-            calls.push((budget, begin));
+            calls.push((budget, Record::Step(Step::Begin)));
             calls.extend(recover.then_some((0, Record::Recover)));
         }
         let bytes = encode(Program::Drill, &plans::largest(), &calls);
-        lists.push(list(
-            "Drill: begin cut after 0 to 79 stores".to_string(),
-            Program::Drill,
-            bytes,
-        ));
+        let name = "Drill: begin cut after 0 to 79 stores".to_string();
+        lists.push(list(name, Program::Drill, bytes));
     }
+}
+
+/// A round on a pair with a take for each log: in copying, before the mark and
+/// after it. A take that is cut is made up for before the notes.
+fn logging_round() -> Vec<Call> {
+    let send = |channel, body| full(Step::Send { channel, body });
+    let receive = |channel| full(Step::Receive { channel });
     let mut round: Vec<Call> = copies(2).collect();
+    round.splice(2..2, [send(1, 8), receive(1)]);
+    round.extend([send(0, 5), send(1, 6), send(0, 7), receive(0)]);
+    round.extend([full(Step::LogicalCheckpoint { process: 0 }), receive(1)]);
+    round.extend(end_round(&pair(), 2).split_off(1));
     round
-        .extend([(0, 5), (1, 6), (0, 7)].map(|(channel, body)| full(Step::Send { channel, body })));
-    round
-        .extend([full(Step::Receive { channel: 0 }), full(Step::LogicalCheckpoint { process: 0 })]);
-    round.extend([full(Step::Receive { channel: 1 })]);
-    round.extend(end_round(&pair(), 1).split_off(1));
+}
+
+/// Power lost after every count of stores of each step of a second round, with
+/// and without a recover after it.
+fn round_cuts(lists: &mut Vec<List>) {
+    let round = logging_round();
     for at in 0..round.len() {
         for budget in 0..4 {
             for recover in [false, true] {
-                let mut calls = round.clone();
-                calls.extend(round.clone());
+                let mut calls = round.repeat(2);
                 calls[round.len() + at].0 = budget;
                 if recover {
                     calls.insert(round.len() + at + 1, (0, Record::Recover));

@@ -18,8 +18,12 @@ pub const UNMARKED_LOGS: &str = "marking, equal tags, board log";
 pub const MARKED_PLAIN: &str = "marking, equal tags, no log";
 pub const CHANNEL_LOGS: &str = "marking, different tag, wire log";
 
-/// Takes that log.
-const LOGS: [&str; 3] = [COPIED_LOGS, UNMARKED_LOGS, CHANNEL_LOGS];
+/// Takes that log, and the stores that each makes.
+const LOGS: [(&str, u64); 3] = [(COPIED_LOGS, 3), (UNMARKED_LOGS, 3), (CHANNEL_LOGS, 2)];
+
+/// Equal bodies one after the other in a board log, by their wires (M-101).
+pub const LOWER_FIRST: &str = "equal bodies, from the lower wire first";
+pub const HIGHER_FIRST: &str = "equal bodies, from the higher wire first";
 
 /// What 12 was the answer to.
 pub const TWELVES: [&str; 13] = [
@@ -38,7 +42,7 @@ pub const TWELVES: [&str; 13] = [
     "give up when idle",
 ];
 
-/// Refusals that no input can bring about: 6, the store has 3,265 cells; 13, an
+/// Refusals that no input can bring about: 6, the store has 5,313 cells; 13, an
 /// input is too short for so many rounds; 14, 15 and 16, no reached state or
 /// store is like that.
 pub const NEVER: [u64; 5] = [6, 13, 14, 15, 16];
@@ -136,7 +140,7 @@ fn refusals() -> Vec<Sight> {
     sights.extend(["send", "take", "copy", "mark", "note"].map(|what| ("refused", what, 8)));
     sights.extend(["send", "note"].map(|what| ("refused", what, 9)));
     sights.push(("refused", "take", 10));
-    sights.extend(LOGS.map(|what| ("refused", what, 11)));
+    sights.extend(LOGS.map(|(what, _)| ("refused", what, 11)));
     sights.extend(TWELVES.map(|what| ("refused", what, 12)));
     sights
 }
@@ -160,6 +164,7 @@ fn calls() -> Vec<Sight> {
     sights.extend(["idle", "copying", "marking"].map(|what| ("restart", what, 0)));
     sights.extend(["board log of 64", "wire log of 8"].map(|what| ("finish with", what, 0)));
     sights.extend(["board log of 64", "wire log of 8"].map(|what| ("restart from", what, 0)));
+    sights.extend([LOWER_FIRST, HIGHER_FIRST].map(|what| ("restart from", what, 0)));
     sights.extend(["tenth line", "tags 1 at begin"].map(|what| ("round", what, 0)));
     sights
 }
@@ -168,7 +173,9 @@ fn calls() -> Vec<Sight> {
 fn cuts() -> Vec<Sight> {
     let mut sights: Vec<Sight> = (0..80).map(|stores| ("cut", "begin", stores)).collect();
     sights.extend([("cut", "copy", 0), ("cut", "finish", 0)]);
-    sights.extend(LOGS.into_iter().flat_map(|log| [("cut", log, 0), ("cut", log, 1)]));
+    for (log, needed) in LOGS {
+        sights.extend((0..needed).map(|stores| ("cut", log, stores)));
+    }
     sights.extend(["restart", "another call"].map(|what| ("after a cut", what, 0)));
     sights
 }

@@ -7,7 +7,7 @@ use reference::console::REDUCE;
 use reference::program::{call, Program};
 use reference::record::{self, Record};
 use reference::state::{Phase, State, CAPACITY};
-use reference::steps::{Outcome, Receipt, Step};
+use reference::steps::{Outcome, Rule, Step};
 use reference::store::CELLS;
 use reference::topology::Topology;
 
@@ -112,8 +112,9 @@ impl<'a> Walk<'a> {
             Record::Step(Step::Begin) => topology.processes + topology.channels.len(),
             Record::Step(Step::PhysicalCheckpoint { .. } | Step::Commit) => 1,
             Record::Step(Step::Receive { channel }) if channel < topology.channels.len() => {
-                match self.state.receipt(channel) {
-                    Some(Receipt::CopiedLogs | Receipt::UnmarkedLogs | Receipt::ChannelLogs) => 2,
+                match self.state.rule(channel) {
+                    Some(Rule::CopiedLogs | Rule::UnmarkedLogs) => 3,
+                    Some(Rule::ChannelLogs) => 2,
                     _ => 0,
                 }
             }

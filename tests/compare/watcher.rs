@@ -6,8 +6,9 @@ use reference::history::Histories;
 use reference::program::{Program, Watch};
 use reference::record::{kind, Record};
 use reference::state::{Phase, State};
-use reference::steps::{Answer, Outcome, Receipt, Step};
-use reference::store;
+use reference::steps::{Answer, Outcome, Rule, Step};
+use reference::store::{self, MESSAGE_LOG};
+use std::cmp::Ordering;
 
 const KINDS: [&str; 9] =
     ["send", "take", "begin", "copy", "mark", "note", "finish", "give up", "restart"];
@@ -79,12 +80,29 @@ impl<'a> Watcher<'a> {
             Phase::Logical => "marking",
         };
         self.count(("restart", phase, 0));
-        let log_full = |p| cells[store::message_log(state.line, p)] == 64;
-        if (0..state.topology.processes).any(log_full) {
-            self.count(("restart from", "board log of 64", 0));
-        }
+        self.count_replayed(state, cells);
         if state.channels.iter().any(|entries| entries.len() == 8) {
             self.count(("restart from", "wire log of 8", 0));
+        }
+    }
+
+    /// What stood in the board logs that a restart has replayed.
+    fn count_replayed(&mut self, state: &State, cells: &[u32]) {
+        let log = |p| store::read_log(cells, store::message_log(state.line, p), MESSAGE_LOG).ok();
+        let logs: Vec<&[[u32; 2]]> = (0..state.topology.processes).filter_map(log).collect();
+        if logs.iter().any(|log| log.len() == MESSAGE_LOG) {
+            self.count(("restart from", "board log of 64", 0));
+        }
+        let equal_bodies = || {
+            let twos = logs.iter().flat_map(|log| log.windows(2));
+            twos.filter(|two| two[0][0] == two[1][0]).map(|two| two[0][1].cmp(&two[1][1]))
+        };
+        for (order, what) in
+            [(Ordering::Less, seen::LOWER_FIRST), (Ordering::Greater, seen::HIGHER_FIRST)]
+        {
+            if equal_bodies().any(|wires| wires == order) {
+                self.count(("restart from", what, 0));
+            }
         }
     }
 
@@ -162,7 +180,7 @@ pub fn rule(state: &State, record: Record) -> &'static str {
     let marking = state.phase == Phase::Logical;
     let copying = matches!(state.phase, Phase::Physical { .. });
     match step {
-        Step::Receive { channel } => receipt(state, channel),
+        Step::Receive { channel } => taking(state, channel),
         Step::Begin if state.phase != Phase::Idle => "begin in a round",
         Step::PhysicalCheckpoint { .. } if !copying => "copy outside copying",
         Step::PhysicalCheckpoint { process }
@@ -191,22 +209,22 @@ pub fn rule(state: &State, record: Record) -> &'static str {
     }
 }
 
-fn receipt(state: &State, channel: usize) -> &'static str {
+fn taking(state: &State, channel: usize) -> &'static str {
     if channel >= state.topology.channels.len() {
         return "no wire";
     }
-    match state.receipt(channel) {
+    match state.rule(channel) {
         None => "empty wire",
-        Some(Receipt::MarkerDropped) => "note outside marking",
-        Some(Receipt::Plain) if state.phase == Phase::Idle => seen::PLAIN,
-        Some(Receipt::Plain) => seen::PLAIN_COPYING,
-        Some(Receipt::CopiedLogs) => seen::COPIED_LOGS,
-        Some(Receipt::MarkerMarks) => seen::MARKER_MARKS,
-        Some(Receipt::MarkerCloses) => seen::MARKER_CLOSES,
-        Some(Receipt::MarkerOnClosed) => "note on a closed wire",
-        Some(Receipt::MessageMarks) => seen::MESSAGE_MARKS,
-        Some(Receipt::UnmarkedLogs) => seen::UNMARKED_LOGS,
-        Some(Receipt::MarkedPlain) => seen::MARKED_PLAIN,
-        Some(Receipt::ChannelLogs) => seen::CHANNEL_LOGS,
+        Some(Rule::MarkerDropped) => "note outside marking",
+        Some(Rule::Plain) if state.phase == Phase::Idle => seen::PLAIN,
+        Some(Rule::Plain) => seen::PLAIN_COPYING,
+        Some(Rule::CopiedLogs) => seen::COPIED_LOGS,
+        Some(Rule::MarkerMarks) => seen::MARKER_MARKS,
+        Some(Rule::MarkerCloses) => seen::MARKER_CLOSES,
+        Some(Rule::MarkerOnClosed) => "note on a closed wire",
+        Some(Rule::MessageMarks) => seen::MESSAGE_MARKS,
+        Some(Rule::UnmarkedLogs) => seen::UNMARKED_LOGS,
+        Some(Rule::MarkedPlain) => seen::MARKED_PLAIN,
+        Some(Rule::ChannelLogs) => seen::CHANNEL_LOGS,
     }
 }

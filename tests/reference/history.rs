@@ -119,7 +119,7 @@ impl Histories {
                     Event::Send { channel, body } => sent[channel].push(body),
                     Event::Receive { channel, body } => {
                         accounted[channel].push(body);
-                        word = taken(word, body);
+                        word = taken(word, channel as u32, body);
                     }
                 }
             }

@@ -49,9 +49,11 @@ pub struct State {
     pub channel_counts: [usize; CHANNELS],
 }
 
-/// Taking a body: 31 × word + body, modulo 2^32.
-pub fn taken(word: u32, body: u32) -> u32 {
-    word.wrapping_mul(31).wrapping_add(body)
+/// Taking a body from a channel (document 02, M-101): 31 × (31 × word + wire) +
+/// body, modulo 2^32.
+pub fn taken(word: u32, channel: u32, body: u32) -> u32 {
+    let with_channel = word.wrapping_mul(31).wrapping_add(channel);
+    with_channel.wrapping_mul(31).wrapping_add(body)
 }
 
 impl State {
@@ -100,11 +102,12 @@ impl State {
         for p in 0..topology.processes {
             let log = store::read_log(cells, store::message_log(line, p), MESSAGE_LOG)?;
             let copy = cells[store::physical_checkpoint(line, p)];
-            state.words[p] = log.iter().fold(copy, |word, &body| taken(word, body));
+            let replay = |word, &[body, channel]: &[u32; 2]| taken(word, channel, body);
+            state.words[p] = log.iter().fold(copy, replay);
         }
         for c in 0..topology.channels.len() {
             let log = store::read_log(cells, store::channel_log(line, c), CHANNEL_LOG)?;
-            let old = |&body| Entry::Message { body, tag: false };
+            let old = |&[body]: &[u32; 1]| Entry::Message { body, tag: false };
             state.channels[c] = log.iter().map(old).collect();
         }
         Ok(state)

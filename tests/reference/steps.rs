@@ -58,7 +58,7 @@ pub struct Answer {
 
 /// The rule of document 01 that a receive falls under.
 #[derive(Clone, Copy, Debug, PartialEq, Eq)]
-pub enum Receipt {
+pub enum Rule {
     /// Outside marking: a note is merely removed.
     MarkerDropped,
     /// Outside marking: a message, not logged.
@@ -134,17 +134,17 @@ impl State {
 
     fn receive(&mut self, channel: usize, power: &mut Power) -> Result<Outcome, Stop> {
         let (_, to) = self.ends(channel)?;
-        let receipt = self.receipt(channel).ok_or(Stop::Refused(10))?;
-        require(receipt != Receipt::MarkerOnClosed, 14)?;
+        let rule = self.rule(channel).ok_or(Stop::Refused(10))?;
+        require(rule != Rule::MarkerOnClosed, 14)?;
         if let Entry::Message { body, .. } = self.channels[channel][0] {
-            self.log(receipt, channel, body, power)?;
+            self.log(rule, channel, body, power)?;
         }
-        if let Receipt::MarkerMarks | Receipt::MessageMarks = receipt {
+        if let Rule::MarkerMarks | Rule::MessageMarks = rule {
             self.mark(to);
         }
         match self.channels[channel].pop_front() {
             Some(Entry::Message { body, .. }) => {
-                self.words[to] = taken(self.words[to], body);
+                self.words[to] = taken(self.words[to], channel as u32, body);
                 Ok(Outcome::Took(body))
             }
             _ => {
@@ -156,48 +156,49 @@ impl State {
 
     /// The rule that a receive on this planned channel falls under; none where
     /// the channel is empty.
-    pub fn receipt(&self, channel: usize) -> Option<Receipt> {
+    pub fn rule(&self, channel: usize) -> Option<Rule> {
         let (_, to) = self.topology.channels[channel];
         let first = self.channels[channel].front()?;
         Some(match (self.phase, *first) {
-            (Phase::Logical, Entry::Marker) if self.closed[channel] => Receipt::MarkerOnClosed,
-            (Phase::Logical, Entry::Marker) if self.marked[to] => Receipt::MarkerCloses,
-            (Phase::Logical, Entry::Marker) => Receipt::MarkerMarks,
-            (_, Entry::Marker) => Receipt::MarkerDropped,
+            (Phase::Logical, Entry::Marker) if self.closed[channel] => Rule::MarkerOnClosed,
+            (Phase::Logical, Entry::Marker) if self.marked[to] => Rule::MarkerCloses,
+            (Phase::Logical, Entry::Marker) => Rule::MarkerMarks,
+            (_, Entry::Marker) => Rule::MarkerDropped,
             (Phase::Logical, Entry::Message { tag, .. }) => {
                 match (tag == self.tags[to], self.marked[to]) {
-                    (true, false) => Receipt::UnmarkedLogs,
-                    (true, true) => Receipt::MarkedPlain,
-                    (false, false) => Receipt::MessageMarks,
-                    (false, true) => Receipt::ChannelLogs,
+                    (true, false) => Rule::UnmarkedLogs,
+                    (true, true) => Rule::MarkedPlain,
+                    (false, false) => Rule::MessageMarks,
+                    (false, true) => Rule::ChannelLogs,
                 }
             }
-            (Phase::Physical { next }, _) if to < next => Receipt::CopiedLogs,
-            _ => Receipt::Plain,
+            (Phase::Physical { next }, _) if to < next => Rule::CopiedLogs,
+            _ => Rule::Plain,
         })
     }
 
-    /// Logs a body where the rule says so: 11, or the two stores and the count.
+    /// Logs a message where the rule says so: 11, or the entry's stores, then
+    /// the raised count.
     fn log(
         &mut self,
-        receipt: Receipt,
+        rule: Rule,
         channel: usize,
         body: u32,
         power: &mut Power,
     ) -> Result<(), Stop> {
         let (_, to) = self.topology.channels[channel];
         let line = self.line.wrapping_add(1);
-        match receipt {
-            Receipt::CopiedLogs | Receipt::UnmarkedLogs => {
+        match rule {
+            Rule::CopiedLogs | Rule::UnmarkedLogs => {
                 let count = self.message_counts[to];
                 require(count < MESSAGE_LOG, 11)?;
-                power.append(store::message_log(line, to), count, body)?;
+                power.append(store::message_log(line, to), count, [body, channel as u32])?;
                 self.message_counts[to] += 1;
             }
-            Receipt::ChannelLogs => {
+            Rule::ChannelLogs => {
                 let count = self.channel_counts[channel];
                 require(count < CHANNEL_LOG, 11)?;
-                power.append(store::channel_log(line, channel), count, body)?;
+                power.append(store::channel_log(line, channel), count, [body])?;
                 self.channel_counts[channel] += 1;
             }
             _ => (),

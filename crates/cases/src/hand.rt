@@ -13,6 +13,9 @@ use rules::layout::STORE_CELLS;
 // More writes than any step makes; as a line, the last one there can be.
 pub const LAST: u32 = 4294967295;
 
+// A cell fewer than the store has.
+pub const SHORT: usize = STORE_CELLS - 1;
+
 // What every cell of a store holds at first.
 pub const RUBBISH: u32 = 3735928559;
 

@@ -5,6 +5,7 @@ mod starts;
 
 use crate::hand::LAST;
 use crate::hand::RUBBISH;
+use crate::hand::SHORT;
 use model::Phase;
 use rules::layout::STORE_CELLS;
 
@@ -22,7 +23,7 @@ fn bad_plans() {
 
 fn short_store() {
     let s = hand::planned(2, 1, 0x0100);
-    let mut store = [RUBBISH; 3264];
+    let mut store = [RUBBISH; SHORT];
     let mut ok = starts::short_start(true, hand::plan(2, 1, 0x0100), 6);
     ok = starts::short_start(ok, hand::plan(2, 1, 0x1100), 4);
     ok = hand::answered(s, hand::step(1, 0), &mut store) == 6 && ok;
@@ -32,7 +33,7 @@ fn short_store() {
     let unsound = hand::made(0, Phase::Idle, 9, 0, 0);
     ok = hand::answered(unsound, hand::step(3, 0), &mut store) == 15 && ok;
     ok = hand::tried(ok, s, 3, 0, 3100);
-    hand::tell(b"3,264 cells: 6, after 1 to 5 and 15, before 8 and 12.", ok);
+    hand::tell(b"5,312 cells: 6, after 1 to 5 and 15, before 8 and 12.", ok);
 }
 
 fn markers() {
@@ -91,18 +92,26 @@ fn unsound() {
     hand::tell(b"Each of the eight steps: 15 before 8 and 12.", ok);
 }
 
-// In the slot for line 0 the counts of process 1 and channel 1 are the cells 68 and 1066. The counts past the plan are
-// rubbish (134 is process 2's), and so is the slot for line 1.
+// In the slot for line 0 the counts of process 1 and channel 1 are the cells 132 and 2090. The counts past the plan are
+// rubbish (262 is process 2's), and so is the slot for line 1.
 fn bad_counts() {
     let t = hand::plan(2, 2, 0x0110);
-    let mut ok = starts::recovered(true, t, 68, 64, 100);
-    ok = starts::recovered(ok, t, 68, 65, 16);
-    ok = starts::recovered(ok, t, 1066, 8, 100);
-    ok = starts::recovered(ok, t, 1066, 9, 16);
+    let mut ok = starts::recovered(true, t, 132, 64, 100);
+    ok = starts::recovered(ok, t, 132, 65, 16);
+    ok = starts::recovered(ok, t, 2090, 8, 100);
+    ok = starts::recovered(ok, t, 2090, 9, 16);
     hand::tell(b"Restart with a count of 65 or 9: 16. 64 and 8 pass.", ok);
-    ok = starts::recovered(true, t, 134, RUBBISH, 100);
+    ok = starts::recovered(true, t, 262, RUBBISH, 100);
     ok = starts::recovered(ok, t, 0, 1, 16);
     hand::tell(b"Counts past the plan or in the other half pass.", ok);
+}
+
+// Refusal 16 looks at counts alone: a restart enters what a log has, whatever wire it names.
+fn logged_wires() {
+    let mut ok = starts::restored(5, 0) == 5 && starts::restored(5, 1) == 36;
+    ok = starts::restored(5, 255) == 7910 && starts::restored(5, 256) == 7941 && ok;
+    ok = starts::restored(5, LAST) == 4294967270 && ok;
+    hand::tell(b"A logged wire of any 32 bits is entered as it stands.", ok);
 }
 
 fn main() {
@@ -113,4 +122,5 @@ fn main() {
     markers();
     unsound();
     bad_counts();
+    logged_wires();
 }

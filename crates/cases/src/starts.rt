@@ -2,6 +2,7 @@
 use crate::hand;
 use crate::hand::LAST;
 use crate::hand::RUBBISH;
+use crate::hand::SHORT;
 use model::Start;
 use model::Topology;
 use rules::layout::STORE_CELLS;
@@ -23,9 +24,23 @@ pub fn recovered(ok: bool, t: Topology, cell: usize, value: u32, answer: u64) ->
     start_number(start) == answer && ok
 }
 
+// The word of process 0 after a recover from its physical checkpoint, 0, and an entry of its message log: body and
+// channel, whatever they are.
+pub fn restored(body: u32, channel: u32) -> u32 {
+    let t = hand::plan(1, 0, 0);
+    let mut store = [RUBBISH; STORE_CELLS];
+    engine::initialize(t, &mut store);
+    store[2] = 1;
+    store[3] = body;
+    store[4] = channel;
+    let started = recovery::recover(t, &store);
+    let state = started.state;
+    state.words[0]
+}
+
 // An initialize and a recover on a store that is a cell short.
 pub fn short_start(ok: bool, t: Topology, answer: u64) -> bool {
-    let mut store = [RUBBISH; 3264];
+    let mut store = [RUBBISH; SHORT];
     let first = engine::initialize(t, &mut store);
     let kept = hand::untouched(&store);
     let again = recovery::recover(t, &store);
@@ -40,7 +55,7 @@ pub fn bad_plan(ok: bool, processes: u8, channels: u8, ends: u16, answer: u64) -
     recovered(
         begun,
         hand::plan(processes, channels, ends),
-        134,
+        262,
         RUBBISH,
         answer,
     )

@@ -13,7 +13,6 @@ use Rattle.model.specs.declared.Outcome.{Outcome}
 use Rattle.model.specs.declared.Outcome.the-variants.{Refused, PowerLost}
 use Rattle.model.specs.declared.Refusal.{Refusal}
 use Rattle.model.specs.Check.{firstRefusal}
-use Rattle.model.specs.Channel.{bodyOf}
 use Rattle.model.specs.Write.{underBudget, writeAll}
 use Rattle.model.specs.Step.{quietly, receivedOutcome}
 use Rattle.model.specs.Outcome.{refused, refusalNumber, saidBy, accepted}
@@ -21,7 +20,7 @@ use Rattle.model.proofs.laws.Effects.{received-accepted}
 use Rattle.model.proofs.laws.Tests.{true-is-not-false}
 use Rattle.rules.specs.declared.reaction.Reaction.{Reaction}
 use Rattle.engine.specs.declared.receive.Setting.{Setting}
-use Rattle.engine.specs.Receiving.{receiveChecks, bodyWrites}
+use Rattle.engine.specs.Receiving.{receiveChecks, entryWrites}
 use Rattle.engine.specs.Receiving.{unlessRefused, Attempts}
 use Rattle.engine.proofs.Promises.{unbudgeted}
 
@@ -37,20 +36,20 @@ module _ (x : Reaction) (a : Setting) (e : Entry) (line : ℕ) (before : List �
       }
 
   module _ (h : firstRefusal (receiveChecks x a) ≡ none) (after : List ℕ)
-      (written : after ≡ writeAll before (take budget (bodyWrites x a line (bodyOf e)))) where
-    pub attempt-lost : budget < length (bodyWrites x a line (bodyOf e))
+      (written : after ≡ writeAll before (take budget (entryWrites x a line e))) where
+    pub attempt-lost : budget < length (entryWrites x a line e)
         → Attempts x a e line before budget (record { received = false; outcome = PowerLost; made = budget }) after
     unfolding unlessRefused underBudget accepted
     attempt-lost l =
-        let k : budget ≤ length (bodyWrites x a line (bodyOf e)) = omega arith in
+        let k : budget ≤ length (entryWrites x a line e) = omega arith in
         record {
           answered = λ s next. rw (h, written, lt-ltb budget _ l, min-eq-left k);
           received = refl;
           passed = λ f. h;
         }
 
-    pub attempt-done : length (bodyWrites x a line (bodyOf e)) ≤ budget → (o : Outcome) → saidBy o ≡ receivedOutcome e
-        → (n : ℕ) → n ≡ length (bodyWrites x a line (bodyOf e))
+    pub attempt-done : length (entryWrites x a line e) ≤ budget → (o : Outcome) → saidBy o ≡ receivedOutcome e
+        → (n : ℕ) → n ≡ length (entryWrites x a line e)
         → Attempts x a e line before budget (record { received = true; outcome = o; made = n }) after
     unfolding unlessRefused underBudget
     attempt-done l o p n q =

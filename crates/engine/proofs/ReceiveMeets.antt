@@ -12,14 +12,15 @@ use native.Mathlib.Omega.{arith}
 use Rattle.model.specs.declared.Answer.{Answer}
 use Rattle.model.specs.declared.State.{State}
 use Rattle.model.specs.declared.Channel.{Channel}
+use Rattle.model.specs.declared.Receipt.{Receipt}
 use Rattle.model.specs.declared.Entry.{Entry}
 use Rattle.model.specs.declared.Step.the-variants.{Receive}
 use Rattle.model.specs.Notation.{tabulate, upd}
 use Rattle.model.specs.Check.{firstRefusal}
 use Rattle.model.specs.Topology.{processLimit, channelLimit, receiver, hasChannel}
-use Rattle.model.specs.Channel.{entryAt, entries, noEntry, bodyOf}
+use Rattle.model.specs.Channel.{entryAt, entries, noEntry, receiptOf}
 use Rattle.model.specs.State.{GlobalState, emptyChannel, view, viewProgress, viewCounts}
-use Rattle.model.specs.Change.{setEntries, enterBody}
+use Rattle.model.specs.Change.{setEntries, enterMessage}
 use Rattle.model.specs.Receive.{anyFull}
 use Rattle.model.specs.Write.{Result, Answered, underBudget, logsWrites}
 use Rattle.model.specs.Step.{reaction, firstReaction, markerOnClosed, priorChecks, roomChecks, logChecks, ownChecks}
@@ -33,8 +34,8 @@ use Rattle.rules.specs.Reacting.{viewReaction}
 use Rattle.engine.specs.declared.receive.Setting.{Setting}
 use Rattle.engine.specs.declared.receive.Reception.{Reception}
 use Rattle.engine.specs.Answers.{Meets, ownResult, Performs}
-use Rattle.engine.specs.Receiving.{countsIn, full, receiveChecks, bodyWrites, wordAfter, unlessRefused}
-use Rattle.engine.specs.Receiving.{answeredWith, Attempts}
+use Rattle.engine.specs.Receiving.{countsIn, full, receiveChecks, receiptWrites, entryWrites, wordAfter}
+use Rattle.engine.specs.Receiving.{unlessRefused, answeredWith, Attempts}
 use Rattle.engine.proofs.Lengths.{Lengths}
 use Rattle.engine.proofs.Receptions.{either-full, full-test, both-written, flagged, flags-raised, counted}
 use Rattle.engine.proofs.Receptions.{counts-raised}
@@ -66,14 +67,14 @@ module _ (s : State) (c : ℕ) (planned : c < s .topology .channels) (k : Channe
 
   -- the state after it, and all that it does
   abbrev after : GlobalState
-  after = enterBody r e (setEntries c (drop 1 (entries k)) (react (viewReaction c r x) c r (view s)))
+  after = enterMessage c r e (setEntries c (drop 1 (entries k)) (react (viewReaction c r x) c r (view s)))
 
   abbrev result : Result
   result =
       record {
         outcome = receivedOutcome e;
         state = after;
-        writes = bodyWrites x setting (s .round .line) (bodyOf e);
+        writes = entryWrites x setting (s .round .line) e;
       }
 
   -- the logs needed are the channel's and its receiver's
@@ -81,13 +82,13 @@ module _ (s : State) (c : ℕ) (planned : c < s .topology .channels) (k : Channe
   unfolding view viewCounts viewReaction
   same-full = either-full (viewCounts (s .counts)) c r (x .«channel_log») (x .«message_log») ∙ sym (full-test x setting)
 
-  same-writes : (body : ℕ)
-      → logsWrites (nextLine (view s)) (view s .counts) (viewReaction c r x .logs) body
-      ≡ bodyWrites x setting (s .round .line) body
+  same-writes : (got : Receipt)
+      → logsWrites (nextLine (view s)) (view s .counts) (viewReaction c r x .logs) got
+      ≡ receiptWrites x setting (s .round .line) got
   unfolding nextLine view viewCounts viewReaction
-  same-writes body =
-      both-written (viewCounts (s .counts)) c r (s .round .line + 1) body (x .«channel_log») (x .«message_log»)
-      ∙ sym (both-written (countsIn setting) c r (s .round .line + 1) body (x .«channel_log») (x .«message_log»))
+  same-writes got =
+      both-written (viewCounts (s .counts)) c r (s .round .line + 1) got (x .«channel_log») (x .«message_log»)
+      ∙ sym (both-written (countsIn setting) c r (s .round .line + 1) got (x .«channel_log») (x .«message_log»))
 
   empty : k .count ≡ 0 → firstRefusal (ownChecks (view s) (Receive c)) ≡ firstRefusal (receiveChecks x setting)
   unfolding ownChecks priorChecks roomChecks logChecks hasChannel noEntry firstRefusal entries tabulate view
@@ -112,7 +113,7 @@ module _ (s : State) (c : ℕ) (planned : c < s .topology .channels) (k : Channe
 
     effect-is : effect (view s) (Receive c) ≡ result
     unfolding effect receive nextLine view receiver
-    effect-is = rw (first, ← reacts, same-writes (bodyOf e))
+    effect-is = rw (first, ← reacts, same-writes (receiptOf c e))
 
   checks : firstRefusal (ownChecks (view s) (Receive c)) ≡ firstRefusal (receiveChecks x setting)
   checks = go (test (eqb (k .count) 0))
@@ -177,9 +178,9 @@ module _ (s : State) (n : Lengths s) (c r : ℕ) (below : c < channelLimit) (to-
         counts = counted (s .counts) c r (x .«channel_log») (x .«message_log»);
       }
 
-  pub changed-seen : (e : Entry) (es : List Entry) → entries k ≡ es → w ≡ wordAfter e (getD (s .words) r 0)
+  pub changed-seen : (e : Entry) (es : List Entry) → entries k ≡ es → w ≡ wordAfter c e (getD (s .words) r 0)
       → g ≡ not (Bool·beq (getD (s .tags) r false) (x .«logical_first»))
-      → view changed ≡ enterBody r e (setEntries c es (react (viewReaction c r x) c r (view s)))
+      → view changed ≡ enterMessage c r e (setEntries c es (react (viewReaction c r x) c r (view s)))
   unfolding view viewReaction
   changed-seen e es pk pw pg =
       same-state refl refl (seen-set (λ v. v) (s .words) r w 0 (rw (n .words) to-below))

@@ -11,6 +11,7 @@ use borrow.Author.Tests.{leb-false}
 use native.Mathlib.Omega.{arith}
 use Rattle.model.specs.declared.Counts.{Counts}
 use Rattle.model.specs.declared.Flags.{Flags}
+use Rattle.model.specs.declared.Receipt.{Receipt}
 use Rattle.model.specs.declared.Entry.{Entry}
 use Rattle.model.specs.declared.Entry.the-variants.{Message, Marker}
 use Rattle.model.specs.Notation.{upd}
@@ -19,7 +20,7 @@ use Rattle.model.specs.Layout.{messagePlaces, channelPlaces, messageEntryCells,
 use Rattle.model.specs.Layout.{entryCell, entryFor}
 use Rattle.model.specs.State.{GlobalState, Progress, LogCounts, raised, raisedAll, viewProgress, viewCounts}
 use Rattle.model.specs.Change.{withWord, withTag, withChannel, withProgress, withCounts, withLogical, withClosed}
-use Rattle.model.specs.Change.{setEntries, enterBody, logicalCheckpoint, close}
+use Rattle.model.specs.Change.{setEntries, enterMessage, logicalCheckpoint, close}
 use Rattle.model.specs.Receive.{anyFull}
 use Rattle.model.specs.Receive as receive
 use Rattle.model.specs.Write.{cellWrites, appendWrites, logWrites, logsWrites}
@@ -37,7 +38,7 @@ pub a-bit : (t : Bool) → boolByte t ≤ 1
 a-bit true = omega arith
 a-bit false = omega arith
 
--- the two logs that a body may go into, by their channel and their process
+-- the two logs that a receipt may go into, by their channel and their process
 module _ (n : LogCounts) (c p : ℕ) where
   pub either-full : (a b : Bool)
       → anyFull n (logIf a (channelLog c) ++ logIf b (messageLog p))
@@ -48,15 +49,15 @@ module _ (n : LogCounts) (c p : ℕ) where
   either-full false true = or-false _
   either-full false false = refl
 
-  pub both-written : (line body : ℕ) (a b : Bool)
-      → logsWrites line n (logIf a (channelLog c) ++ logIf b (messageLog p)) body
-      ≡ appendIf a (countCell line (channelLog c)) (n .channels c) (entryFor (channelLog c) body)
-      ++ appendIf b (countCell line (messageLog p)) (n .messages p) (entryFor (messageLog p) body)
+  pub both-written : (line : ℕ) (r : Receipt) (a b : Bool)
+      → logsWrites line n (logIf a (channelLog c) ++ logIf b (messageLog p)) r
+      ≡ appendIf a (countCell line (channelLog c)) (n .channels c) (entryFor (channelLog c) r)
+      ++ appendIf b (countCell line (messageLog p)) (n .messages p) (entryFor (messageLog p) r)
   unfolding logsWrites logWrites appendWrites cellWrites
-  both-written line body true true = refl
-  both-written line body true false = refl
-  both-written line body false true = refl
-  both-written line body false false = refl
+  both-written line r true true = refl
+  both-written line r true false = refl
+  both-written line r false true = refl
+  both-written line r false false = refl
 
 -- an append at a cell that is known by another name
 pub moved : {st st′ : List ℕ} {b b′ : ℕ} (t : Bool) (at at′ count : ℕ) (entry : List ℕ) → at ≡ at′
@@ -64,14 +65,14 @@ pub moved : {st st′ : List ℕ} {b b′ : ℕ} (t : Bool) (at at′ count : �
 moved {st} {st′} {b} {b′} t at at′ count entry e p = subst (λ (a : ℕ). Spent st b (appendIf t a count entry) st′ b′) e p
 
 -- how many writes that are
-pub both-cost : (a b : Bool) (m k i j body c p : ℕ)
-    → length (appendIf a m i (entryFor (channelLog c) body) ++ appendIf b k j (entryFor (messageLog p) body))
-    ≡ 2 * (boolByte a + boolByte b)
+pub both-cost : (a b : Bool) (m k i j c p : ℕ) (r : Receipt)
+    → length (appendIf a m i (entryFor (channelLog c) r) ++ appendIf b k j (entryFor (messageLog p) r))
+    ≡ (channelEntryCells + 1) * boolByte a + (messageEntryCells + 1) * boolByte b
 unfolding appendWrites cellWrites
-both-cost true true m k i j body c p = refl
-both-cost true false m k i j body c p = refl
-both-cost false true m k i j body c p = refl
-both-cost false false m k i j body c p = refl
+both-cost true true m k i j c p r = refl
+both-cost true false m k i j c p r = refl
+both-cost false true m k i j c p r = refl
+both-cost false false m k i j c p r = refl
 
 -- the slot goes by the line's parity, so that a line that wraps has the right one
 pub same-cell : (k : ℕ) (log : Log) → countCell ((k + 1) % 2 ^ 32) log ≡ countCell (k + 1) log
@@ -200,8 +201,8 @@ tag-after f i false = sym (ap (upd f i) (kept (f i)) ∙ upd-unchanged f i)
 
 -- the state after it, part by part
 module _ (c r : ℕ) (s : GlobalState) where
-  word-entered : (e : Entry) → enterBody r e s ≡ withWord (upd (s .word) r (wordAfter e (s .word r))) s
-  unfolding enterBody withWord wordAfter
+  word-entered : (e : Entry) → enterMessage c r e s ≡ withWord (upd (s .word) r (wordAfter c e (s .word r))) s
+  unfolding enterMessage withWord wordAfter
   word-entered (Message b t) = refl
   word-entered Marker = same-state refl refl (sym (upd-unchanged (s .word) r)) refl refl refl refl
 
@@ -241,11 +242,11 @@ module _ (c r : ℕ) (s : GlobalState) where
   reacts false false = same-state refl refl refl (tag-after (s .tag) r false) refl (raised-flags false false) refl
 
 pub received : (c r : ℕ) (s : GlobalState) (x : receive.Reaction) (e : Entry) (es : List Entry)
-    → enterBody r e (setEntries c es (react x c r s))
+    → enterMessage c r e (setEntries c es (react x c r s))
     ≡ record {
       topology = s .topology;
       round = s .round;
-      word = upd (s .word) r (wordAfter e (s .word r));
+      word = upd (s .word) r (wordAfter c e (s .word r));
       tag = upd (s .tag) r (not (Bool·beq (s .tag r) (x .logicalFirst)));
       channel = upd (s .channel) c es;
       progress = progressAfter (x .logicalFirst) (x .closes) c r (s .progress);
@@ -253,6 +254,6 @@ pub received : (c r : ℕ) (s : GlobalState) (x : receive.Reaction) (e : Entry) 
     }
 unfolding react setEntries withWord withTag withChannel withProgress withCounts
 received c r s x e es =
-    ap (λ (t : GlobalState). enterBody r e (setEntries c es t))
+    ap (λ (t : GlobalState). enterMessage c r e (setEntries c es t))
     (reacts c r (withCounts (raisedAll (x .logs) (s .counts)) s) (x .logicalFirst) (x .closes))
     ∙ word-entered c r _ e

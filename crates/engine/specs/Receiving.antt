@@ -8,13 +8,14 @@ use mathlib.Core.Option.{Option, none, some}
 use lib.Dec.{eqb}
 use Rattle.model.specs.declared.State.{State}
 use Rattle.model.specs.declared.Answer.{Answer}
+use Rattle.model.specs.declared.Receipt.{Receipt}
 use Rattle.model.specs.declared.Entry.{Entry}
 use Rattle.model.specs.declared.Entry.the-variants.{Message, Marker}
 use Rattle.model.specs.Notation.{upd}
 use Rattle.model.specs.Check.{Check, _⇒_, firstRefusal}
-use Rattle.model.specs.Word.{enter}
+use Rattle.model.specs.Word.{receipt, enter}
 use Rattle.model.specs.Topology.{processLimit, channelLimit}
-use Rattle.model.specs.Channel.{bodyOf}
+use Rattle.model.specs.Channel.{receiptOf}
 use Rattle.model.specs.Layout.{Log}
 use Rattle.model.specs.State.{GlobalState, Progress, LogCounts}
 use Rattle.model.specs.Receive.{anyFull}
@@ -47,13 +48,17 @@ abbrev pub receiveChecks : Reaction → Setting → List Check
 receiveChecks x a =
     (eqb (a .entries) 0 ⇒ 10) ∷ ((x .closes && a .closed) ⇒ 14) ∷ (full x a ⇒ 11) ∷ []
 
--- what a body writes, for the line after this one
-abbrev pub bodyWrites : Reaction → Setting → ℕ → ℕ → List Write
-bodyWrites x a line body = logsWrites (line + 1) (countsIn a) (logsOf x a) body
+-- what a receipt writes, for the line after this one
+abbrev pub receiptWrites : Reaction → Setting → ℕ → Receipt → List Write
+receiptWrites x a line r = logsWrites (line + 1) (countsIn a) (logsOf x a) r
 
-unfoldable pub wordAfter : Entry → ℕ → ℕ
-wordAfter (Message b t) word = enter word b
-wordAfter Marker word = word
+-- and what receiving an entry writes
+abbrev pub entryWrites : Reaction → Setting → ℕ → Entry → List Write
+entryWrites x a line e = receiptWrites x a line (receiptOf (a .channel) e)
+
+unfoldable pub wordAfter : ℕ → Entry → ℕ → ℕ
+wordAfter c (Message b t) word = enter word (receipt c b)
+wordAfter c Marker word = word
 
 -- the receiver r has its logical checkpoint, and channel c is closed, if that was so before or is so now
 unfoldable pub progressAfter : Bool → Bool → ℕ → ℕ → Progress → Progress
@@ -80,7 +85,7 @@ pub record Attempts (x : Reaction) (a : Setting) (e : Entry) (line : ℕ) (befor
   pub answered : (s next : GlobalState)
       → underBudget budget s before
       (unlessRefused (firstRefusal (receiveChecks x a)) s
-      (record { outcome = receivedOutcome e; state = next; writes = bodyWrites x a line (bodyOf e) }))
+      (record { outcome = receivedOutcome e; state = next; writes = entryWrites x a line e }))
       ≡ record { outcome = saidBy (r .outcome); made = r .made; state = cond (r .received) next s; store = after }
   pub received : accepted (saidBy (r .outcome)) ≡ r .received
   pub passed : r .received ≡ true → firstRefusal (receiveChecks x a) ≡ none

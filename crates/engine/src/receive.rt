@@ -6,6 +6,7 @@ use crate::store;
 use model::Answer;
 use model::Entry;
 use model::Outcome;
+use model::Receipt;
 use model::Refusal;
 use model::State;
 use model::Verdict;
@@ -26,11 +27,13 @@ ghost use Rattle.model.specs.State.{view};
 ghost use Rattle.model.specs.Sound.{sound};
 ghost use Rattle.engine.specs.Answers.{Performs};
 ghost use Rattle.engine.specs.Spent.{Needed};
-ghost use Rattle.engine.specs.Receiving.{InArrays, full, receiveChecks, bodyWrites, Attempts, wordAfter};
+ghost use Rattle.engine.specs.Receiving.{InArrays, full, receiveChecks, receiptWrites, Attempts, wordAfter};
 ghost use Rattle.engine.specs.Receiving.{answeredWith};
 
-// What a body in a log costs: its entry, and the raised count.
-const LOG_WRITES: u32 = 2;
+// How many writes a receipt in a log costs: the cells of its entry, and the raised count.
+const CHANNEL_LOG_WRITES: u32 = layout::CHANNEL_ENTRY_CELLS as u32 + 1;
+
+const MESSAGE_LOG_WRITES: u32 = layout::MESSAGE_ENTRY_CELLS as u32 + 1;
 
 // Where an entry is received: its channel, with how many entries, closed or not; its receiver; and how many entries the
 // logs of the two have.
@@ -68,19 +71,28 @@ fn check(x: Reaction, at: Setting) -> Verdict
     Verdict::Pass
 }
 
-// The body into the logs that the reaction needs, for the line after this one, as far as the power lasts. It answers
-// how many writes are needed. (The slot goes by the line's parity: where the line wraps, too, it is the right one.)
-fn log(x: Reaction, at: Setting, line: u32, body: u32, store: &mut [u32], budget: u32) -> u32
+// What was received into the logs that the reaction needs, for the line after this one, as far as the power lasts: into
+// a channel log the body, into a message log body and channel. It answers how many writes are needed. (The slot goes by
+// the line's parity: where the line wraps, too, it is the right one.)
+fn log(x: Reaction, at: Setting, line: u32, got: Receipt, store: &mut [u32], budget: u32) -> u32
     requires { ⌜ InArrays at × (full x at ≡ false) × (storeCells ≤ length (now store)) ⌝ }
-    ensures { λ r. ⌜ Needed (now (store .entry)) budget (bodyWrites x at line body) (now (store .exit)) r ⌝ }
+    ensures { λ r. ⌜ Needed (now (store .entry)) budget (receiptWrites x at line got) (now (store .exit)) r ⌝ }
 {
     let next = std::num::wrapping_add_u32(line, 1);
-    let entry = [body];
     let channel = layout::channel_count_cell(next, at.channel);
-    let left = store::append(store, budget, x.channel_log, channel, at.in_channel, &entry);
+    let body = [got.body];
+    let left = store::append(store, budget, x.channel_log, channel, at.in_channel, &body);
     let message = layout::message_count_cell(next, at.receiver);
-    store::append(store, left, x.message_log, message, at.in_messages, &entry);
-    LOG_WRITES * (x.channel_log as u32 + x.message_log as u32)
+    let receipt = [got.body, got.channel];
+    store::append(
+        store,
+        left,
+        x.message_log,
+        message,
+        at.in_messages,
+        &receipt,
+    );
+    CHANNEL_LOG_WRITES * (x.channel_log as u32) + MESSAGE_LOG_WRITES * (x.message_log as u32)
 }
 
 // Refusals 10, 14 and 11 of the entry, and then the writes of its logs, as far as the power lasts.
@@ -102,7 +114,8 @@ fn attempt(
             made: 0,
         };
     }
-    let needed = log(x, at, line, reaction::body(e), store, budget);
+    let got = reaction::receipt(at.channel, e);
+    let needed = log(x, at, line, got, store, budget);
     if budget < needed {
         return Reception {
             received: false,
@@ -118,11 +131,11 @@ fn attempt(
 }
 
 // The receiver's word, which a message enters.
-fn word_after(word: u32, e: Entry) -> u32
-    ensures { λ r. ⌜ r ≡ wordAfter e word ⌝ }
+fn word_after(word: u32, channel: u8, e: Entry) -> u32
+    ensures { λ r. ⌜ r ≡ wordAfter channel e word ⌝ }
 {
     match e {
-        Entry::Message { body, tag: _ } => word::enter(word, body),
+        Entry::Message { body: _, tag: _ } => word::enter(word, reaction::receipt(channel, e)),
         Entry::Marker => word,
     }
 }
@@ -170,7 +183,7 @@ pub fn receive(mut s: State, channel: u8, store: &mut [u32], budget: u32) -> Ans
         return answered(came, s);
     }
     s.channels[index] = entries::pop(c);
-    s.words[to] = word_after(s.words[to], e);
+    s.words[to] = word_after(s.words[to], channel, e);
     s.tags[to] = s.tags[to] != x.logical_first;
     flags.logical[to] = flags.logical[to] | x.logical_first;
     flags.closed[index] = flags.closed[index] | x.closes;

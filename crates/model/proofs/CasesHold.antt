@@ -1,4 +1,5 @@
--- The starred cases of document 01 hold of the definitions: one fact over the table, by computation.
+-- The starred cases of document 01, and those of document 02, M-101, hold of the definitions: one fact over the table,
+-- by computation.
 use mathlib.Core.Path.{_≡_, refl}
 use mathlib.Core.List.{map}
 use Rattle.model.specs.Notation as notation
@@ -32,7 +33,8 @@ unfolding
     topology.sizeRefusal topology.channelsRefusal topology.topologyRefusal
     channel.bodies channel.messages channel.noRoom channel.noRoomForMessage channel.noRoomForMarker channel.noEntry
     layout.cell layout.slot layout.processRecord layout.channelRecord layout.physicalCell
-    layout.countCell layout.cellsFrom layout.entriesFrom layout.entriesBy layout.bodiesBy layout.logged
+    layout.countCell layout.cellsFrom layout.entriesFrom layout.entriesBy layout.receiptsBy
+    layout.bodiesBy layout.logged
     state.noProgress state.noCounts state.raised state.raisedAll state.idleState
     sound.topologySound sound.channelSound sound.logSound sound.phaseSound sound.lineSound sound.channelSoundIn
     sound.sound
@@ -41,7 +43,7 @@ unfolding
     write.commitWrites
     write.underBudget
     change.withRound change.withWord change.withTag change.withChannel change.withProgress change.withCounts
-    change.withLogical change.withClosed change.withSent change.inPhase change.setEntries change.enterBody
+    change.withLogical change.withClosed change.withSent change.inPhase change.setEntries change.enterMessage
     change.logicalCheckpoint change.close change.recordSent change.plainChannels change.endRound
     receive.logsOnly receive.reactionTo receive.anyFull
     step.mayCheckpointLogically step.maySendMarker step.mayCommit step.reaction step.firstReaction step.markerOnClosed
@@ -62,5 +64,5 @@ unfolding
     runs.callWith runs.callOf
     lines.saidWord lines.lineNumbers lines.numbered lines.outputNumbers lines.printed lines.afterSteps lines.answerIn
     lines.answerLine lines.thenRecover lines.tagNumber lines.entryNumbers lines.thenTags lines.readingNumbers
-    cases.input cases.oneProcess cases.starred
+    cases.input cases.oneProcess cases.neighbours cases.starred
 starred-hold = refl

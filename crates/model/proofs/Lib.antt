@@ -13,3 +13,4 @@ pub mod Touched
 pub mod Looked
 pub mod Reached
 pub mod Trace
+pub mod OrderShows

@@ -27,7 +27,7 @@ use Rattle.model.specs.State.{GlobalState, LogCounts, countOf, raised, r
 use Rattle.model.specs.Sound.{channelSound, channelSoundIn, phaseSound, lineSound, lastLine, sound}
 use Rattle.model.specs.Change.{withRound, withWord, withTag, withChannel, withProgress, withCounts, inPhase}
 use Rattle.model.specs.Change.{setEntries}
-use Rattle.model.specs.Change.{enterBody, logicalCheckpoint, close, recordSent, plainChannels, endRound}
+use Rattle.model.specs.Change.{enterMessage, logicalCheckpoint, close, recordSent, plainChannels, endRound}
 use Rattle.model.specs.Receive.{Reaction, logsOnly, reactionTo, anyFull}
 use Rattle.model.specs.Step.{roomChecks, logChecks, quietly, reaction, firstReaction, react, receive}
 use Rattle.model.specs.Step.{afterPhysical}
@@ -153,12 +153,12 @@ react-sound x c r s a f h = either Sound (x .closes) _ _ (kept saved) saved
 
 receive-sound : (s : GlobalState) (c : ℕ) (es : List Entry) → length es ≤ channelRoom
     → anyFull (s .counts) (firstReaction s c es .logs) ≡ false → Sound s → Sound (receive s c es .state)
-unfolding receive quietly firstReaction reaction setEntries withChannel enterBody withWord
+unfolding receive quietly firstReaction reaction setEntries withChannel enterMessage withWord
 receive-sound s c [] l f h = h
 receive-sound s c (e ∷ es) l f h = entered e (react-sound _ c _ s (reaction-apart _ c _ _ _ e) f h)
   where
     entered : (d : Entry) {y : GlobalState} → Sound y
-        → Sound (enterBody (receiver (s .topology) c) d (setEntries c es y))
+        → Sound (enterMessage c (receiver (s .topology) c) d (setEntries c es y))
     entered d {y} g = go d
       where
         room : RoomKept (y .topology) (upd (y .channel) c es)
@@ -166,7 +166,7 @@ receive-sound s c (e ∷ es) l f h = entered e (react-sound _ c _ s (reaction-ap
             upd-all (λ xs. length xs ≤ channelRoom) (y .topology .channels) (y .channel) c es (omega arith)
             (entries-fit y g)
 
-        go : (d : Entry) → Sound (enterBody (receiver (s .topology) c) d (setEntries c es y))
+        go : (d : Entry) → Sound (enterMessage c (receiver (s .topology) c) d (setEntries c es y))
         go (Message b t) = sound-parts g refl room (g .logs) (g .phase) (g .line)
         go Marker = sound-parts g refl room (g .logs) (g .phase) (g .line)
 

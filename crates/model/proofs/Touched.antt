@@ -12,6 +12,7 @@ use native.Mathlib.Omega.{arith}
 use Rattle.model.specs.declared.Topology.{Topology}
 use Rattle.model.specs.declared.Phase.{Phase}
 use Rattle.model.specs.declared.Phase.the-variants.{Idle, Physical, Logical}
+use Rattle.model.specs.declared.Receipt.{Receipt}
 use Rattle.model.specs.declared.Entry.{Entry}
 use Rattle.model.specs.declared.Entry.the-variants.{Message, Marker}
 use Rattle.model.specs.declared.Step.{Step}
@@ -19,7 +20,7 @@ use Rattle.model.specs.declared.Step.the-variants.{Send, Receive, Begin,
 use Rattle.model.specs.declared.Step.the-variants.{LogicalCheckpoint, SendMarker, Commit, Abort}
 use Rattle.model.specs.Notation.{concatBelow, tabulate}
 use Rattle.model.specs.Topology.{receiver, topologyRefusal}
-use Rattle.model.specs.Channel.{bodyOf}
+use Rattle.model.specs.Channel.{receiptOf}
 use Rattle.model.specs.Layout.{storeCells, cell, slot, physicalCell, Log, messageLog, channelLog, places}
 use Rattle.model.specs.Layout.{countCell}
 use Rattle.model.specs.State.{GlobalState, LogCounts, countOf}
@@ -77,26 +78,26 @@ reaction-logs P Logical c r false tag (Message b t) m k =
     either (λ (x : Reaction). EachLog P (x .logs)) (Bool·beq t tag) _ _ (m, tt) tt
 reaction-logs P Logical c r logical tag Marker m k = tt
 
--- a body into planned logs that have room
-logs-below : (T : Topology) → topologyRefusal T ≡ none → (n : ℕ) (counts : LogCounts) (logs : List Log) (b : ℕ)
-    → EachLog (Planned T) logs → anyFull counts logs ≡ false → Below (logsWrites n counts logs b)
+-- a receipt into planned logs that have room
+logs-below : (T : Topology) → topologyRefusal T ≡ none → (n : ℕ) (counts : LogCounts) (logs : List Log) (r : Receipt)
+    → EachLog (Planned T) logs → anyFull counts logs ≡ false → Below (logsWrites n counts logs r)
 unfolding logsWrites anyFull
-logs-below T ok n counts [] b planned room = tt
-logs-below T ok n counts (log ∷ logs) b planned room =
+logs-below T ok n counts [] r planned room = tt
+logs-below T ok n counts (log ∷ logs) r planned room =
     let has-room =
     leb-false (places log) (countOf counts log) (or-left (leb (places log) (countOf counts log)) _ room) in
-    each-append (λ w. w .cell < storeCells) (logWrites n log (countOf counts log) b) (logsWrites n counts logs b)
-    (slot-writes n (logWrites n log (countOf counts log) b)
-    (log-in T some-store (sized T ok) n log (planned .0) (logWrites n log (countOf counts log) b)
-    (log-into n log (countOf counts log) b has-room)))
-    (logs-below T ok n counts logs b (planned .1) (or-right (leb (places log) (countOf counts log)) _ room))
+    each-append (λ w. w .cell < storeCells) (logWrites n log (countOf counts log) r) (logsWrites n counts logs r)
+    (slot-writes n (logWrites n log (countOf counts log) r)
+    (log-in T some-store (sized T ok) n log (planned .0) (logWrites n log (countOf counts log) r)
+    (log-into n log (countOf counts log) r has-room)))
+    (logs-below T ok n counts logs r (planned .1) (or-right (leb (places log) (countOf counts log)) _ room))
 
 receive-below : (s : GlobalState) → topologyRefusal (s .topology) ≡ none → (c : ℕ) → c < s .topology .channels
     → (es : List Entry) → anyFull (s .counts) (firstReaction s c es .logs) ≡ false → Below (receive s c es .writes)
 unfolding receive quietly firstReaction reaction
 receive-below s ok c l [] room = tt
 receive-below s ok c l (e ∷ es) room =
-    logs-below (s .topology) ok (nextLine s) (s .counts) _ (bodyOf e)
+    logs-below (s .topology) ok (nextLine s) (s .counts) _ (receiptOf c e)
     (reaction-logs (Planned (s .topology)) (s .round .phase) c (receiver (s .topology) c) _ _ e
     (receiver-planned (s .topology) ok c l) l)
     room

@@ -7,6 +7,7 @@ pub mod Passing
 pub mod Calls
 pub mod CallLists
 pub mod TopologyLaws
+pub mod WordLaws
 pub mod SoundLaws
 pub mod HistoryLaws
 pub mod RecordLaws

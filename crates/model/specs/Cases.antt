@@ -1,10 +1,10 @@
--- Document 01, "Cases": those with a star, as one table. Each row has what the definitions give and what document 01
--- says, as lines of numbers.
+-- Document 01, "Cases": those with a star, as one table, with the words that document 02, M-101, gives for them and its
+-- own case. Each row has what the definitions give and what the papers say, as lines of numbers.
 use Prim.Native.Nat.{ℕ, _+_}
 use mathlib.Core.List.{List, [], _∷_, _++_}
 use Rattle.model.specs.declared.Step.the-variants.{Begin, Commit, Abort}
 use Rattle.model.specs.Notation.{concatBelow}
-use Rattle.model.specs.Word.{enter, replay}
+use Rattle.model.specs.Word.{receipt, enter, replay}
 use Rattle.model.specs.Record.{readRecord}
 use Rattle.model.specs.Program as program
 use Rattle.model.specs.CaseLines.{done, took, note, line, refused, board, wire, powerLost, message, printed}
@@ -39,6 +39,14 @@ oneProcess =
     ∷ 0x01 ∷ 0x05
     ∷ 0x01 ∷ 0x07
     ∷ 0x01 ∷ 0x09
+    ∷ []
+
+-- boards 1 and 2 send 5 to board 0, on wires 0 and 1
+unfoldable pub neighbours : List ℕ
+neighbours =
+    0x03 ∷ 0x02 ∷ 0x01 ∷ 0x00 ∷ 0x02 ∷ 0x00
+    ∷ 0x09 ∷ 0x01 ∷ 0x05 ∷ 0x00 ∷ 0x00 ∷ 0x00
+    ∷ 0x0D ∷ 0x01 ∷ 0x01 ∷ 0x05 ∷ 0x00 ∷ 0x00 ∷ 0x00
     ∷ []
 
 pub record Case : Type 0 where
@@ -134,12 +142,45 @@ starred =
           [];
       expected = (1 ∷ powerLost ∷ 3 ∷ []) ∷ (1 ∷ done ∷ 4 ∷ []) ∷ [];
     }
-    -- "Word 4,294,967,295, body 1: 4,294,967,266."
-    ∷ record { got = (enter 4294967295 1 ∷ []) ∷ []; expected = (4294967266 ∷ []) ∷ [] }
-    -- "Bodies 2, 3 from word 0: 65. 3, 2: 95."
+    -- "Word 4,294,967,295, body 1", "taken from wire 0": "4,294,966,336"
+    ∷ record { got = (enter 4294967295 (receipt 0 1) ∷ []) ∷ []; expected = (4294966336 ∷ []) ∷ [] }
+    -- "Bodies 2, 3 from word 0", "taken from wire 0": "1,925"; "3, 2": "2,885"
     ∷ record {
-      got = (replay 0 (2 ∷ 3 ∷ []) ∷ []) ∷ (replay 0 (3 ∷ 2 ∷ []) ∷ []) ∷ [];
-      expected = (65 ∷ []) ∷ (95 ∷ []) ∷ [];
+      got = (replay 0 (receipt 0 2 ∷ receipt 0 3 ∷ []) ∷ []) ∷ (replay 0 (receipt 0 3 ∷ receipt 0 2 ∷ []) ∷ []) ∷ [];
+      expected = (1925 ∷ []) ∷ (2885 ∷ []) ∷ [];
+    }
+    -- "From 0, body 5 from wire 0 and then wire 1 gives 4,841; the other order gives 34,601.": replayed, and taken
+    ∷ record {
+      got = (replay 0 (receipt 0 5 ∷ receipt 1 5 ∷ []) ∷ []) ∷ (replay 0 (receipt 1 5 ∷ receipt 0 5 ∷ []) ∷ []) ∷ [];
+      expected = (4841 ∷ []) ∷ (34601 ∷ []) ∷ [];
+    }
+    ∷ record {
+      got = printed (neighbours ++ (0x01 ∷ 0x02 ∷ 0x05 ∷ 0x02 ∷ 0x01 ∷ []));
+      expected =
+          (1 ∷ done ∷ 0 ∷ [])
+          ∷ (2 ∷ done ∷ 0 ∷ [])
+          ∷ (3 ∷ took ∷ 5 ∷ 0 ∷ [])
+          ∷ (4 ∷ took ∷ 5 ∷ 0 ∷ [])
+          ∷ (board ∷ 0 ∷ 4841 ∷ [])
+          ∷ (board ∷ 1 ∷ 0 ∷ [])
+          ∷ (board ∷ 2 ∷ 0 ∷ [])
+          ∷ (wire ∷ 0 ∷ 0 ∷ [])
+          ∷ (wire ∷ 1 ∷ 0 ∷ [])
+          ∷ [];
+    }
+    ∷ record {
+      got = printed (neighbours ++ (0x05 ∷ 0x02 ∷ 0x01 ∷ 0x01 ∷ 0x02 ∷ []));
+      expected =
+          (1 ∷ done ∷ 0 ∷ [])
+          ∷ (2 ∷ done ∷ 0 ∷ [])
+          ∷ (3 ∷ took ∷ 5 ∷ 0 ∷ [])
+          ∷ (4 ∷ took ∷ 5 ∷ 0 ∷ [])
+          ∷ (board ∷ 0 ∷ 34601 ∷ [])
+          ∷ (board ∷ 1 ∷ 0 ∷ [])
+          ∷ (board ∷ 2 ∷ 0 ∷ [])
+          ∷ (wire ∷ 0 ∷ 0 ∷ [])
+          ∷ (wire ∷ 1 ∷ 0 ∷ [])
+          ∷ [];
     }
     -- "05 02 00 is 7; 01 02 takes wire 0." Take is kind 2.
     ∷ record {

@@ -8,7 +8,7 @@ use Rattle.model.specs.declared.Phase.the-variants.{Idle}
 use Rattle.model.specs.declared.Entry.{Entry}
 use Rattle.model.specs.declared.Entry.the-variants.{Message, Marker}
 use Rattle.model.specs.Notation.{upd}
-use Rattle.model.specs.Word.{enter}
+use Rattle.model.specs.Word.{receipt, enter}
 use Rattle.model.specs.Topology.{hasChannel}
 use Rattle.model.specs.Channel.{bodies, messages}
 use Rattle.model.specs.State.{GlobalState, Progress, LogCounts, noProgress}
@@ -103,10 +103,10 @@ inPhase phase s = withRound (record { line = s .round .line; phase = phase }) s
 unfoldable pub setEntries : ℕ → List Entry → GlobalState → GlobalState
 setEntries c es s = withChannel (upd (s .channel) c es) s
 
--- "Every message taken then enters the word."
-unfoldable pub enterBody : ℕ → Entry → GlobalState → GlobalState
-enterBody p (Message b t) s = withWord (upd (s .word) p (enter (s .word p) b)) s
-enterBody p Marker s = s
+-- "Every message taken then enters the word.": an entry of channel c, at its receiver p
+unfoldable pub enterMessage : ℕ → ℕ → Entry → GlobalState → GlobalState
+enterMessage c p (Message b t) s = withWord (upd (s .word) p (enter (s .word p) (receipt c b))) s
+enterMessage c p Marker s = s
 
 -- a logical checkpoint (mark): "Marking turns the board's tag over."
 unfoldable pub logicalCheckpoint : ℕ → GlobalState → GlobalState

@@ -8,7 +8,9 @@ use lib.Dec.{eqb, leb}
 use Rattle.model.specs.declared.Channel.{Channel}
 use Rattle.model.specs.declared.Entry.{Entry}
 use Rattle.model.specs.declared.Entry.the-variants.{Message, Marker}
+use Rattle.model.specs.declared.Receipt.{Receipt}
 use Rattle.model.specs.Notation.{tabulate}
+use Rattle.model.specs.Word.{receipt}
 
 -- "holds at most 8 entries"
 abbrev pub channelRoom : ℕ
@@ -62,3 +64,7 @@ noEntry (e ∷ es) = false
 abbrev pub bodyOf : Entry → ℕ
 bodyOf (Message b t) = b
 bodyOf Marker = 0
+
+-- what receiving an entry of channel c brings
+abbrev pub receiptOf : ℕ → Entry → Receipt
+receiptOf c e = receipt c (bodyOf e)

@@ -15,7 +15,7 @@ use Rattle.model.specs.Sound.{sound}
 use Rattle.model.specs.Outcome.{refused}
 use Rattle.model.specs.Step.{answer}
 use Rattle.model.specs.Start.{Startup, initialize, recover}
-use Rattle.model.specs.History.{History, sent, received, bodiesOn, receivedBodies, onRecover}
+use Rattle.model.specs.History.{History, sent, received, bodiesOn, receiptsOf, onRecover}
 use Rattle.model.specs.Run.{Call, World, run, firstWorld}
 
 -- What recover answers (r), with the histories as this recover leaves them (h) and the number of accepted commits.
@@ -31,8 +31,9 @@ pub record Recovered (T : Topology) (r : Startup) (h : History) (commits : ℕ) 
       ≡ bodiesOn received c (h .events (receiver T c)) ++ bodies (r .state .channel c)
   -- and it holds no note."
   pub markerless : (c : ℕ) → c < T .channels → markerless (r .state .channel c) ≡ true
-  -- "Each word is what the takes in the board's book make from word 0, in order."
-  pub words : (p : ℕ) → p < T .processes → r .state .word p ≡ replay 0 (receivedBodies (h .events p))
+  -- "Each word is what the takes in the board's book make from word 0, in order."; "What a board's takes make, after a
+  -- restart, is read by this rule.": M-101's, of wire and body
+  pub words : (p : ℕ) → p < T .processes → r .state .word p ≡ replay 0 (receiptsOf (h .events p))
 
 -- recover, called in the world w
 abbrev pub RecoveredAfter : Topology → World → Type 0

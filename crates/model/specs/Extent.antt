@@ -1,4 +1,4 @@
--- Document 01: "A lent slice of 3,265 cells of 32 bits; further cells are never touched." As a statement; the theorem
+-- Document 01: "A lent slice of [5,313] cells of 32 bits; further cells are never touched." As a statement; the theorem
 -- is proofs/Touched.antt.
 use Prim.Native.Nat.{ℕ, _<_, _≤_}
 use mathlib.Core.Path.{_≡_}

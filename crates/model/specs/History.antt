@@ -10,7 +10,9 @@ use Rattle.model.specs.declared.Topology.{Topology}
 use Rattle.model.specs.declared.Step.{Step}
 use Rattle.model.specs.declared.Step.the-variants.{Send, Receive, Begin, PhysicalCheckpoint, LogicalCheckpoint}
 use Rattle.model.specs.declared.Step.the-variants.{SendMarker, Commit, Abort}
+use Rattle.model.specs.declared.Receipt.{Receipt}
 use Rattle.model.specs.Notation.{upd}
+use Rattle.model.specs.Word.{receipt}
 use Rattle.model.specs.Topology.{sender, receiver}
 use Rattle.model.specs.Outcome.{Said, done, took, note, line, refused, cut, accepted}
 
@@ -46,10 +48,11 @@ unfoldable pub bodiesOn : Direction → ℕ → List Event → List ℕ
 bodiesOn d c [] = []
 bodiesOn d c (e ∷ es) = cond (isOn d c e) (e .body ∷ bodiesOn d c es) (bodiesOn d c es)
 
--- all the bodies received, in order, whatever the channel
-unfoldable pub receivedBodies : List Event → List ℕ
-receivedBodies [] = []
-receivedBodies (e ∷ es) = cond (sameDirection received (e .direction)) (e .body ∷ receivedBodies es) (receivedBodies es)
+-- the receipts of all receives, in order
+unfoldable pub receiptsOf : List Event → List Receipt
+receiptsOf [] = []
+receiptsOf (e ∷ es) =
+    cond (sameDirection received (e .direction)) (receipt (e .channel) (e .body) ∷ receiptsOf es) (receiptsOf es)
 
 -- the place of the send on channel c that has n sends on c before it (the end, where there is none)
 unfoldable pub placeOfSend : ℕ → ℕ → List Event → ℕ

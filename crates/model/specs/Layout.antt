@@ -1,12 +1,16 @@
--- Document 01, "The store": where each thing stands.
+-- Document 01, "The store": where each thing stands. In brackets are the numbers that document 02, M-101, puts in the
+-- place of its: "The board record has 130 cells, the half 2,656 and the store 5,313; wire records start at 2,080 in the
+-- half."
 use Prim.Native.Nat.{ℕ, zero, suc, _+_, _*_, _%_}
 use mathlib.Core.List.{List, [], _∷_, map}
 use lib.ListN.{getD}
+use Rattle.model.specs.declared.Receipt.{Receipt}
 use Rattle.model.specs.Notation.{tabulate}
+use Rattle.model.specs.Word.{receipt}
 
--- "A lent slice of 3,265 cells of 32 bits; further cells are never touched."
+-- "A lent slice of [5,313] cells of 32 bits; further cells are never touched."
 abbrev pub storeCells : ℕ
-storeCells = 3265
+storeCells = 5313
 
 -- what a cell holds
 unfoldable pub cell : List ℕ → ℕ → ℕ
@@ -16,23 +20,23 @@ cell store at = getD store at 0
 abbrev pub lineCell : ℕ
 lineCell = 0
 
--- "The half for line n starts at 1 + 1,632 × (n mod 2)." A half is a slot.
+-- "The half for line n starts at 1 + [2,656] × (n mod 2)." A half is a slot.
 abbrev pub slotCells : ℕ
-slotCells = 1632
+slotCells = 2656
 
 unfoldable pub slot : ℕ → ℕ
 slot n = 1 + slotCells * (n % 2)
 
--- "In it board p's record starts at 66 × p: copy, log count, 64 bodies."
+-- "In it board p's record starts at [130] × p: copy, log count," and 64 entries of two cells
 abbrev pub processCells : ℕ
-processCells = 66
+processCells = 130
 
 unfoldable pub processRecord : ℕ → ℕ → ℕ
 processRecord n p = slot n + processCells * p
 
--- "Wire w's starts at 1,056 + 9 × w: count, 8 bodies."
+-- "Wire w's starts at [2,080] + 9 × w: count, 8 bodies."
 abbrev pub channelsStart : ℕ
-channelsStart = 1056
+channelsStart = 2080
 
 abbrev pub channelCells : ℕ
 channelCells = 9
@@ -45,7 +49,7 @@ unfoldable pub physicalCell : ℕ → ℕ → ℕ
 physicalCell n p = processRecord n p
 
 -- A log: the message log (board log) of a process or the channel log (wire log) of a channel. Both have one shape: a
--- count, then the entries, which have as many cells each.
+-- count, then the entries, each of as many cells as the log has for one.
 pub data Log : Type 0 where
   messageLog : ℕ → Log
   channelLog : ℕ → Log
@@ -61,9 +65,10 @@ abbrev pub places : Log → ℕ
 places (messageLog p) = messagePlaces
 places (channelLog c) = channelPlaces
 
--- how many cells an entry has: one, for the body
+-- how many cells an entry has: "Each board log entry becomes body and wire"; a wire log's is a body, since its wire is
+-- known
 abbrev pub messageEntryCells : ℕ
-messageEntryCells = 1
+messageEntryCells = 2
 
 abbrev pub channelEntryCells : ℕ
 channelEntryCells = 1
@@ -94,18 +99,25 @@ entriesFrom store w at k = tabulate k (λ i. cellsFrom store w (entryCell w at i
 unfoldable pub entriesBy : List ℕ → ℕ → Log → ℕ → List (List ℕ)
 entriesBy store n log k = entriesFrom store (entryCells log) (countCell n log) k
 
--- what the cells of a log's entry hold for a body, and the body that an entry has
-abbrev pub entryFor : Log → ℕ → List ℕ
-entryFor (messageLog p) body = body ∷ []
-entryFor (channelLog c) body = body ∷ []
+-- what the cells of an entry hold for a receipt: "body and wire, stored so"
+abbrev pub entryFor : Log → Receipt → List ℕ
+entryFor (messageLog p) r = r .body ∷ r .channel ∷ []
+entryFor (channelLog c) r = r .body ∷ []
+
+-- what an entry says: in a message log a receipt, in a channel log a body
+abbrev pub receiptIn : List ℕ → Receipt
+receiptIn entry = receipt (getD entry 1 0) (getD entry 0 0)
 
 abbrev pub bodyIn : List ℕ → ℕ
 bodyIn entry = getD entry 0 0
 
--- the first k bodies of a log for line n
-unfoldable pub bodiesBy : List ℕ → ℕ → Log → ℕ → List ℕ
-bodiesBy store n log k = map bodyIn (entriesBy store n log k)
+-- the first k receipts of process p's message log, and the first k bodies of channel c's log, for line n
+unfoldable pub receiptsBy : List ℕ → ℕ → ℕ → ℕ → List Receipt
+receiptsBy store n p k = map receiptIn (entriesBy store n (messageLog p) k)
 
--- the bodies that a log for line n holds in the store: as many as its count there says
-unfoldable pub logged : List ℕ → ℕ → Log → List ℕ
-logged store n log = bodiesBy store n log (cell store (countCell n log))
+unfoldable pub bodiesBy : List ℕ → ℕ → ℕ → ℕ → List ℕ
+bodiesBy store n c k = map bodyIn (entriesBy store n (channelLog c) k)
+
+-- the bodies that channel c's log for line n holds in the store: as many as its count there says
+unfoldable pub logged : List ℕ → ℕ → ℕ → List ℕ
+logged store n c = bodiesBy store n c (cell store (countCell n (channelLog c)))

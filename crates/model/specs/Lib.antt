@@ -28,3 +28,4 @@ pub mod CaseLines
 pub mod Cases
 pub mod CallList
 pub mod Reduction
+pub mod SpokeFirst

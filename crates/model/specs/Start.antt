@@ -15,7 +15,7 @@ use Rattle.model.specs.Word.{replay}
 use Rattle.model.specs.Topology.{topologyRefusal, hasProcess, hasChannel}
 use Rattle.model.specs.Channel.{messages}
 use Rattle.model.specs.Layout.{storeCells, cell, lineCell, physicalCell, Log, messageLog, channelLog, places}
-use Rattle.model.specs.Layout.{countCell, bodiesBy, logged}
+use Rattle.model.specs.Layout.{countCell, receiptsBy, logged}
 use Rattle.model.specs.State.{GlobalState, idleState, blankState}
 use Rattle.model.specs.Write.{Write, writeAll, commitWrites}
 
@@ -30,7 +30,7 @@ unfoldable pub startupOr : Option ℕ → GlobalState → List ℕ → List ℕ 
 startupOr none s after before = record { refusal = none; state = s; store = after }
 startupOr (some n) s after before = record { refusal = some n; state = blankState; store = before }
 
--- 1 to 5, then "6 store under 3,265 cells."
+-- 1 to 5, then "6 store under [5,313] cells."
 unfoldable pub initializeRefusal : Topology → ℕ → Option ℕ
 initializeRefusal T cells = orElse (topologyRefusal T) (firstRefusal ((ltb cells storeCells ⇒ 6) ∷ []))
 
@@ -70,7 +70,7 @@ recoverRefusal T store =
 -- what the slot for line n makes of process p, with the first k entries of its message log: "words by replaying board
 -- logs on copies"
 unfoldable pub restoredBy : List ℕ → ℕ → ℕ → ℕ → ℕ
-restoredBy store n p k = replay (cell store (physicalCell n p)) (bodiesBy store n (messageLog p) k)
+restoredBy store n p k = replay (cell store (physicalCell n p)) (receiptsBy store n p k)
 
 -- with as many as its count in the store says
 unfoldable pub restored : List ℕ → ℕ → ℕ → ℕ
@@ -82,7 +82,7 @@ recoveredWord T store p = cond (hasProcess T p) (restored store (storedLine stor
 -- "wires filled from wire logs", "tags 0 on boards and messages"
 unfoldable pub recoveredChannel : Topology → List ℕ → ℕ → List Entry
 recoveredChannel T store c =
-    cond (hasChannel T c) (messages false (logged store (storedLine store) (channelLog c))) []
+    cond (hasChannel T c) (messages false (logged store (storedLine store) c)) []
 
 -- "Restart only reads: from plan and store it gives an idle state at line k"
 unfoldable pub recover : Topology → List ℕ → Startup

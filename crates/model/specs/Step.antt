@@ -15,13 +15,13 @@ use Rattle.model.specs.Notation.{allBelow}
 use Rattle.model.specs.Outcome.{Said, done, took, note, refused}
 use Rattle.model.specs.Check.{Check, _⇒_, firstRefusal}
 use Rattle.model.specs.Topology.{sender, receiver, hasProcess, hasChannel}
-use Rattle.model.specs.Channel.{noRoomForMessage, noRoomForMarker, noEntry, bodyOf}
+use Rattle.model.specs.Channel.{noRoomForMessage, noRoomForMarker, noEntry, receiptOf}
 use Rattle.model.specs.Phase.{isIdle, isLogical, isNext}
 use Rattle.model.specs.Layout.{storeCells}
 use Rattle.model.specs.State.{GlobalState, noCounts, noProgress, raisedAll}
 use Rattle.model.specs.Sound.{sound, lastLine}
-use Rattle.model.specs.Change.{withTag, withChannel, withProgress, withCounts, inPhase, setEntries, enterBody}
-use Rattle.model.specs.Change.{logicalCheckpoint, close, recordSent, plainChannels, endRound}
+use Rattle.model.specs.Change.{withTag, withChannel, withProgress, withCounts, inPhase, setEntries}
+use Rattle.model.specs.Change.{enterMessage, logicalCheckpoint, close, recordSent, plainChannels, endRound}
 use Rattle.model.specs.Receive.{Reaction, logsOnly, reactionTo, anyFull}
 use Rattle.model.specs.Write.{Result, Answered, underBudget, clearWrites, physicalWrites, logsWrites}
 use Rattle.model.specs.Write.{commitWrites}
@@ -136,8 +136,8 @@ receive s c (e ∷ es) =
     let x : Reaction = reaction s c e in
     record {
       outcome = receivedOutcome e;
-      state = enterBody r e (setEntries c es (react x c r s));
-      writes = logsWrites (nextLine s) (s .counts) (x .logs) (bodyOf e);
+      state = enterMessage c r e (setEntries c es (react x c r s));
+      writes = logsWrites (nextLine s) (s .counts) (x .logs) (receiptOf c e);
     }
 
 -- "The last copy starts marking, with no board marked, no wire closed and no note put."

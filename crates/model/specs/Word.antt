@@ -1,11 +1,17 @@
--- Document 01, "The head": "Taking a body makes the word 31 × word + body, modulo 2^32."
+-- Document 02, M-101, in the place of document 01's rule: "A take now makes the word 31 × (31 × word + wire) + body,
+-- modulo 2^32." What a take brings, wire and body, is a receipt.
 use Prim.Native.Nat.{ℕ, _+_, _*_, _%_}
 use mathlib.Core.List.{List, [], _∷_}
+use Rattle.model.specs.declared.Receipt.{Receipt}
 
-abbrev pub enter : ℕ → ℕ → ℕ
-enter word body = (31 * word + body) % 4294967296
+-- a body from channel c
+abbrev pub receipt : ℕ → ℕ → Receipt
+receipt c body = record { channel = c; body = body }
 
--- what the bodies, received in order, make of a word
-unfoldable pub replay : ℕ → List ℕ → ℕ
+abbrev pub enter : ℕ → Receipt → ℕ
+enter word r = (31 * (31 * word + r .channel) + r .body) % 4294967296
+
+-- what the receipts, in order, make of a word
+unfoldable pub replay : ℕ → List Receipt → ℕ
 replay word [] = word
-replay word (b ∷ bs) = replay (enter word b) bs
+replay word (r ∷ rs) = replay (enter word r) rs

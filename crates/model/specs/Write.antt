@@ -5,6 +5,7 @@ use mathlib.Core.List.{List, [], _∷_, _++_}
 use lib.ListN.{length, take, set}
 use lib.Dec.{ltb}
 use Rattle.model.specs.declared.Topology.{Topology}
+use Rattle.model.specs.declared.Receipt.{Receipt}
 use Rattle.model.specs.Notation.{tabulate}
 use Rattle.model.specs.Outcome.{Said, cut}
 use Rattle.model.specs.Layout.{lineCell, physicalCell, Log, messageLog, channelLog, countCell, entryCell}
@@ -40,19 +41,20 @@ unfoldable pub cellWrites : ℕ → List ℕ → List Write
 cellWrites at [] = []
 cellWrites at (v ∷ vs) = record { cell = at; value = v } ∷ cellWrites (at + 1) vs
 
--- "A logged take: body, then the raised count." The log's count stands in the cell `at`.
+-- "A logged take: body, then the raised count."; of a message log "body and wire, stored so, before the count". The
+-- log's count stands in the cell `at`.
 unfoldable pub appendWrites : ℕ → ℕ → List ℕ → List Write
 appendWrites at count entry =
     cellWrites (entryCell (length entry) at count) entry ++ (record { cell = at; value = count + 1 } ∷ [])
 
 -- "a logged body goes to the place its log's count in the state names"
-unfoldable pub logWrites : ℕ → Log → ℕ → ℕ → List Write
-logWrites n log count body = appendWrites (countCell n log) count (entryFor log body)
+unfoldable pub logWrites : ℕ → Log → ℕ → Receipt → List Write
+logWrites n log count r = appendWrites (countCell n log) count (entryFor log r)
 
--- a body into each of these logs, in their order; counts are those of the state
-unfoldable pub logsWrites : ℕ → LogCounts → List Log → ℕ → List Write
-logsWrites n counts [] body = []
-logsWrites n counts (log ∷ logs) body = logWrites n log (countOf counts log) body ++ logsWrites n counts logs body
+-- a receipt into each of these logs, in their order; counts are those of the state
+unfoldable pub logsWrites : ℕ → LogCounts → List Log → Receipt → List Write
+logsWrites n counts [] r = []
+logsWrites n counts (log ∷ logs) r = logWrites n log (countOf counts log) r ++ logsWrites n counts logs r
 
 -- "Finish: k + 1 into cell 0."
 unfoldable pub commitWrites : ℕ → List Write

@@ -44,6 +44,13 @@ pub struct Channel {
     pub count: u8,
 }
 
+// What a receive brings: the channel (document 02's wire) that a message came on, and its body. A cell of the store can
+// hold any number, so a receipt read from there may name a channel that is none.
+pub struct Receipt {
+    pub channel: u32,
+    pub body: u32,
+}
+
 // What the round under way has done: the processes that have their logical checkpoint (marked boards), the channels
 // that are closed, and those on which the marker was sent (note put).
 pub struct Flags {

@@ -127,7 +127,7 @@ abbrev pub wordOf : List ℕ → ℕ → ℕ
 wordOf st p = restored st (storedLine st) p
 
 abbrev pub channelOf : List ℕ → ℕ → List Entry
-channelOf st c = messages false (logged st (storedLine st) (channelLog c))
+channelOf st c = messages false (logged st (storedLine st) c)
 
 pub words-below : (T : Topology) (st : List ℕ) → filledBelow (T .processes) (wordOf st) 0 ≡ recoveredWord T st
 unfolding recoveredWord hasProcess

@@ -7,10 +7,11 @@ use mathlib.Core.List.{List, map}
 use lib.ListN.{length, getD}
 use Rattle.model.specs.declared.Channel.{Channel}
 use Rattle.model.specs.declared.Entry.{Entry}
+use Rattle.model.specs.declared.Receipt.{Receipt}
 use Rattle.model.specs.declared.Started.{Started}
 use Rattle.model.specs.Outcome.{startRefusal}
 use Rattle.model.specs.Channel.{entries}
-use Rattle.model.specs.Layout.{cell, entriesFrom, bodyIn}
+use Rattle.model.specs.Layout.{cell, messageEntryCells, channelEntryCells, entriesFrom, receiptIn, bodyIn}
 use Rattle.model.specs.State.{view, emptyChannel}
 use Rattle.model.specs.Start.{Startup}
 
@@ -30,6 +31,9 @@ channelsSeen channels = λ c. entries (getD channels c emptyChannel)
 abbrev pub Ends : ℕ → List ℕ → ℕ → Type 0
 Ends w store at = at + w * cell store at < length store
 
--- the bodies of the log whose count stands in the cell at, with w cells for an entry
-abbrev pub loggedAt : ℕ → List ℕ → ℕ → List ℕ
-loggedAt w store at = map bodyIn (entriesFrom store w at (cell store at))
+-- the receipts of the message log, and the bodies of the channel log, whose count stands in the cell at
+abbrev pub receiptsAt : List ℕ → ℕ → List Receipt
+receiptsAt store at = map receiptIn (entriesFrom store messageEntryCells at (cell store at))
+
+abbrev pub bodiesAt : List ℕ → ℕ → List ℕ
+bodiesAt store at = map bodyIn (entriesFrom store channelEntryCells at (cell store at))

@@ -1,6 +1,7 @@
 // The logs in the store, as recover reads them.
 use model::Channel;
 use model::ROOM;
+use model::Receipt;
 use rules::layout;
 use rules::word;
 ghost use mathlib.Core.Path.{_≡_};
@@ -12,7 +13,7 @@ ghost use Rattle.model.specs.Notation.{allBelow};
 ghost use Rattle.model.specs.Word.{replay};
 ghost use Rattle.model.specs.Channel.{channelRoom, entries, messages};
 ghost use Rattle.model.specs.Layout.{cell, messageEntryCells, channelEntryCells};
-ghost use Rattle.recovery.specs.Starts.{Ends, loggedAt};
+ghost use Rattle.recovery.specs.Starts.{Ends, receiptsAt, bodiesAt};
 
 // Whether n cells, from first on and each a stride after the one before, hold at most the limit.
 pub fn at_most(store: &[u32], first: usize, stride: usize, n: u8, limit: u8) -> bool
@@ -29,25 +30,30 @@ pub fn at_most(store: &[u32], first: usize, stride: usize, n: u8, limit: u8) -> 
     true
 }
 
-// What the log whose count stands in the cell at makes of a word.
+// What the message log whose count stands in the cell at makes of a word.
 pub fn replay_log(store: &[u32], at: usize, word: u32) -> u32
     requires { ⌜ Ends messageEntryCells (now store) at ⌝ }
-    ensures { λ r. ⌜ r ≡ replay word (loggedAt messageEntryCells (now (store .entry)) at) ⌝ }
+    ensures { λ r. ⌜ r ≡ replay word (receiptsAt (now (store .entry)) at) ⌝ }
 {
     let n = store[at] as usize;
     let mut w = word;
     let mut i = 0;
     while i < n {
-        w = word::enter(w, store[at + 1 + layout::MESSAGE_ENTRY_CELLS * i]);
+        let entry = at + 1 + layout::MESSAGE_ENTRY_CELLS * i;
+        let receipt = Receipt {
+            channel: store[entry + 1],
+            body: store[entry],
+        };
+        w = word::enter(w, receipt);
         i += 1;
     }
     w
 }
 
-// A channel with the log's bodies as messages tagged 0.
+// A channel with the bodies of the channel log whose count stands in the cell at, as messages tagged 0.
 pub fn fill(store: &[u32], at: usize) -> Channel
     requires { ⌜ (cell (now store) at ≤ channelRoom) × Ends channelEntryCells (now store) at ⌝ }
-    ensures { λ r. ⌜ entries r ≡ messages false (loggedAt channelEntryCells (now (store .entry)) at) ⌝ }
+    ensures { λ r. ⌜ entries r ≡ messages false (bodiesAt (now (store .entry)) at) ⌝ }
 {
     let n = store[at] as usize;
     let mut bodies = [0; ROOM];

@@ -33,7 +33,8 @@ unfolding
     topology.sizeRefusal topology.channelsRefusal topology.topologyRefusal
     channel.bodies channel.messages channel.noRoom channel.noRoomForMessage channel.noRoomForMarker channel.noEntry
     layout.cell layout.slot layout.processRecord layout.channelRecord layout.physicalCell
-    layout.countCell layout.cellsFrom layout.entriesFrom layout.entriesBy layout.bodiesBy layout.logged
+    layout.countCell layout.cellsFrom layout.entriesFrom layout.entriesBy layout.receiptsBy
+    layout.bodiesBy layout.logged
     state.noProgress state.noCounts state.raised state.raisedAll state.idleState
     sound.topologySound sound.channelSound sound.logSound sound.phaseSound sound.lineSound
     sound.channelSoundIn sound.sound
@@ -41,7 +42,7 @@ unfolding
     write.logWrites write.logsWrites
     write.commitWrites write.underBudget
     change.withRound change.withWord change.withTag change.withChannel change.withProgress change.withCounts
-    change.withLogical change.withClosed change.withSent change.inPhase change.setEntries change.enterBody
+    change.withLogical change.withClosed change.withSent change.inPhase change.setEntries change.enterMessage
     change.logicalCheckpoint change.close change.recordSent change.plainChannels change.endRound
     receive.logsOnly receive.reactionTo receive.anyFull
     step.mayCheckpointLogically step.maySendMarker step.mayCommit step.reaction step.firstReaction step.markerOnClosed

@@ -3,28 +3,28 @@ ghost use mathlib.Core.Path.{_≡_};
 ghost use Rattle.model.specs.Layout.{slot, physicalCell, countCell, messageLog, channelLog};
 
 // How many cells the store has.
-pub const STORE_CELLS: usize = 3265;
+pub const STORE_CELLS: usize = 5313;
 
 // The cell of the last recovery line finished.
 pub const LINE_CELL: usize = 0;
 
 // How many cells a slot has, and in it the record of a process and that of a channel.
-const SLOT_CELLS: usize = 1632;
+const SLOT_CELLS: usize = 2656;
 
-pub const PROCESS_CELLS: usize = 66;
+pub const PROCESS_CELLS: usize = 130;
 
 pub const CHANNEL_CELLS: usize = 9;
 
 // Where in a slot the channels' records start.
-const CHANNELS_START: usize = 1056;
+const CHANNELS_START: usize = 2080;
 
-// How many bodies a message log and a channel log hold: "board log (64 places)", "wire log (8 places)".
+// How many entries a message log and a channel log hold: "board log (64 places)", "wire log (8 places)".
 pub const MESSAGE_PLACES: u8 = 64;
 
 pub const CHANNEL_PLACES: u8 = 8;
 
-// How many cells an entry of a message log and of a channel log has: one, for the body.
-pub const MESSAGE_ENTRY_CELLS: usize = 1;
+// How many cells an entry of a message log has, body and channel, and one of a channel log, the body.
+pub const MESSAGE_ENTRY_CELLS: usize = 2;
 
 pub const CHANNEL_ENTRY_CELLS: usize = 1;
 

@@ -2,9 +2,10 @@
 use model::Entry;
 use model::Outcome;
 use model::Phase;
+use model::Receipt;
 ghost use mathlib.Core.Path.{_≡_};
 ghost use Rattle.model.specs.Outcome.{saidBy};
-ghost use Rattle.model.specs.Channel.{bodyOf};
+ghost use Rattle.model.specs.Channel.{bodyOf, receiptOf};
 ghost use Rattle.model.specs.Step.{receivedOutcome};
 ghost use Rattle.rules.specs.Reacting.{Reacts, logging};
 
@@ -63,12 +64,22 @@ pub fn react(phase: Phase, receiver: u8, logical: bool, tag: bool, e: Entry) -> 
 }
 
 // The message's body; a marker has none.
-pub fn body(e: Entry) -> u32
+fn body(e: Entry) -> u32
     ensures { λ r. ⌜ r ≡ bodyOf e ⌝ }
 {
     match e {
         Entry::Message { body, tag: _ } => body,
         Entry::Marker => 0,
+    }
+}
+
+// What receiving it on a channel brings.
+pub fn receipt(channel: u8, e: Entry) -> Receipt
+    ensures { λ r. ⌜ r ≡ receiptOf channel e ⌝ }
+{
+    Receipt {
+        channel: channel as u32,
+        body: body(e),
     }
 }
 

@@ -1,21 +1,24 @@
-// The word rule of document 01: "31 × word + body, modulo 2^32".
+// The word rule of document 02, M-101: "31 × (31 × word + wire) + body, modulo 2^32".
+use model::Receipt;
 ghost use mathlib.Core.Path.{_≡_};
+ghost use Prim.Native.Nat.{_*_, _%_};
 ghost use Rattle.model.specs.Word.{enter};
 
 const FACTOR: u64 = 31;
 
 const MODULUS: u64 = 4294967296;
 
-// What body 0 makes of a word: the product, wrapped.
+// 31 times a word, wrapped.
 fn product(word: u32) -> u32
-    ensures { λ r. ⌜ r ≡ enter word 0 ⌝ }
+    ensures { λ r. ⌜ r ≡ 31 * word % 4294967296 ⌝ }
 {
     ((FACTOR * (word as u64)) % MODULUS) as u32
 }
 
-// What a body makes of a word.
-pub fn enter(word: u32, body: u32) -> u32
-    ensures { λ r. ⌜ r ≡ enter word body ⌝ }
+// What a receipt makes of a word.
+pub fn enter(word: u32, receipt: Receipt) -> u32
+    ensures { λ r. ⌜ r ≡ enter word receipt ⌝ }
 {
-    std::num::wrapping_add_u32(product(word), body)
+    let from = std::num::wrapping_add_u32(product(word), receipt.channel);
+    std::num::wrapping_add_u32(product(from), receipt.body)
 }

@@ -27,7 +27,7 @@ requestsBytes bytes = lineBytes / 2 * (bytes + 1)
 abbrev pub playedBytes : ℕ
 playedBytes = requestsBytes inputBytes + processLimit * processBytes + channelLimit * channelBytes
 
--- with the cells that `drill` prints: 1,515,054 bytes
+-- with the cells that `drill` prints: 1,570,350 bytes
 abbrev pub outputBytes : ℕ
 outputBytes = playedBytes + storeCells * cellBytes
 

@@ -15,7 +15,7 @@ ghost use Rattle.session.specs.Drill.{drillText};
 ghost use Rattle.session.specs.Output.{headText, outputBytes};
 
 // No output is longer than this: specs/Output.antt has the sum.
-const OUTPUT_BYTES: usize = 1515054;
+const OUTPUT_BYTES: usize = 1570350;
 
 // A buffer that holds every output.
 pub fn buffer() -> [u8; OUTPUT_BYTES]

@@ -15,7 +15,7 @@ use Rattle.model.specs.Topology.{receiver}
 use Rattle.model.specs.State.{GlobalState, raisedAll}
 use Rattle.model.specs.Change.{withRound, withWord, withTag, withChannel, withProgress, withCounts, inPhase}
 use Rattle.model.specs.Change.{setEntries}
-use Rattle.model.specs.Change.{enterBody, logicalCheckpoint, close, recordSent, endRound}
+use Rattle.model.specs.Change.{enterMessage, logicalCheckpoint, close, recordSent, endRound}
 use Rattle.model.specs.Outcome.{Said, refused, cut, accepted}
 use Rattle.model.specs.Write.{Answered, underBudget}
 use Rattle.model.specs.Receive.{Reaction}
@@ -69,7 +69,7 @@ react-follows x c r s = either Kept (x .closes) _ _ (closed saved) saved
     closed h = record { topology = h .topology; line = h .line }
 
 receive-follows : (s : GlobalState) (c : ℕ) (es : List Entry) → Follows s (receive s c es .state) (s .round .line)
-unfolding receive quietly enterBody setEntries withChannel withWord
+unfolding receive quietly enterMessage setEntries withChannel withWord
 receive-follows s c [] = record { topology = refl; line = refl }
 receive-follows s c (Message b t ∷ es) =
     let h = react-follows (reaction s c (Message b t)) c (receiver (s .topology) c) s in

@@ -9,14 +9,15 @@ use lib.ListN.{length, take}
 use lib.Seq.{take-length}
 use borrow.Author.Tests.{eq-eqb, ne-eqb}
 use native.Mathlib.Omega.{arith}
-use Rattle.model.specs.Word.{enter, replay}
-use Rattle.model.specs.History.{Event, Direction, sent, received, isOn, sameDirection, bodiesOn, receivedBodies}
+use Rattle.model.specs.declared.Receipt.{Receipt}
+use Rattle.model.specs.Word.{receipt, enter, replay}
+use Rattle.model.specs.History.{Event, Direction, sent, received, isOn, sameDirection, bodiesOn, receiptsOf}
 use Rattle.model.specs.History.{placeOfSend}
 use Rattle.model.proofs.laws.Tests.{Tested, holds, fails, test}
 
 -- the word that the receives of a history make from 0
 unfoldable pub wordOf : List Event → ℕ
-wordOf es = replay 0 (receivedBodies es)
+wordOf es = replay 0 (receiptsOf es)
 
 -- the part of a history before its mark of the round; all of it where there is none
 unfoldable pub before : Option ℕ → List Event → List Event
@@ -28,38 +29,35 @@ pub data Marked (n : ℕ) : Bool → Option ℕ → Type 0 where
   unmarked : Marked n false none
   marked : {m : ℕ} → m ≤ n → Marked n true (some m)
 
+-- one that is picked or not, before two lists put together
+picked : {A : Type 0} (t : Bool) (x : A) (xs ys : List A) {all : List A} → all ≡ xs ++ ys
+    → cond t (x ∷ all) all ≡ cond t (x ∷ xs) xs ++ ys
+picked {A} true x xs ys e = ap (λ (l : List A). x ∷ l) e
+picked false x xs ys e = e
+
 pub bodiesOn-append : (d : Direction) (c : ℕ) (xs ys : List Event)
     → bodiesOn d c (xs ++ ys) ≡ bodiesOn d c xs ++ bodiesOn d c ys
 unfolding bodiesOn
 bodiesOn-append d c [] ys = refl
-bodiesOn-append d c (x ∷ xs) ys = go (isOn d c x) (bodiesOn-append d c xs ys)
-  where
-    go : (t : Bool) → bodiesOn d c (xs ++ ys) ≡ bodiesOn d c xs ++ bodiesOn d c ys
-        → cond t (x .body ∷ bodiesOn d c (xs ++ ys)) (bodiesOn d c (xs ++ ys))
-        ≡ cond t (x .body ∷ bodiesOn d c xs) (bodiesOn d c xs) ++ bodiesOn d c ys
-    go true e = ap (λ (l : List ℕ). x .body ∷ l) e
-    go false e = e
+bodiesOn-append d c (x ∷ xs) ys =
+    picked (isOn d c x) (x .body) (bodiesOn d c xs) (bodiesOn d c ys) (bodiesOn-append d c xs ys)
 
-received-append : (xs ys : List Event) → receivedBodies (xs ++ ys) ≡ receivedBodies xs ++ receivedBodies ys
-unfolding receivedBodies
-received-append [] ys = refl
-received-append (x ∷ xs) ys = go (sameDirection received (x .direction)) (received-append xs ys)
-  where
-    go : (t : Bool) → receivedBodies (xs ++ ys) ≡ receivedBodies xs ++ receivedBodies ys
-        → cond t (x .body ∷ receivedBodies (xs ++ ys)) (receivedBodies (xs ++ ys))
-        ≡ cond t (x .body ∷ receivedBodies xs) (receivedBodies xs) ++ receivedBodies ys
-    go true e = ap (λ (l : List ℕ). x .body ∷ l) e
-    go false e = e
+receipts-append : (xs ys : List Event) → receiptsOf (xs ++ ys) ≡ receiptsOf xs ++ receiptsOf ys
+unfolding receiptsOf
+receipts-append [] ys = refl
+receipts-append (x ∷ xs) ys =
+    picked (sameDirection received (x .direction)) (receipt (x .channel) (x .body)) (receiptsOf xs) (receiptsOf ys)
+    (receipts-append xs ys)
 
-pub replay-append : (w : ℕ) (xs ys : List ℕ) → replay w (xs ++ ys) ≡ replay (replay w xs) ys
+pub replay-append : (w : ℕ) (xs ys : List Receipt) → replay w (xs ++ ys) ≡ replay (replay w xs) ys
 unfolding replay
 replay-append w [] ys = refl
 replay-append w (x ∷ xs) ys = replay-append (enter w x) xs ys
 
--- one more body after a log is one more entered
-pub replay-snoc : (w : ℕ) (xs : List ℕ) (b : ℕ) → replay w (xs ++ (b ∷ [])) ≡ enter (replay w xs) b
+-- one more receipt after a log is one more entered
+pub replay-snoc : (w : ℕ) (xs : List Receipt) (r : Receipt) → replay w (xs ++ (r ∷ [])) ≡ enter (replay w xs) r
 unfolding replay
-replay-snoc w xs b = replay-append w xs (b ∷ [])
+replay-snoc w xs r = replay-append w xs (r ∷ [])
 
 -- the events that a step adds
 abbrev pub sentOn : ℕ → ℕ → Event
@@ -105,12 +103,13 @@ receive-is-no-send c d b = refl
 
 -- the word after one more event
 pub word-sent : (xs : List Event) (c b : ℕ) → wordOf (xs ++ (sentOn c b ∷ [])) ≡ wordOf xs
-unfolding wordOf receivedBodies sameDirection
-word-sent xs c b = ap (replay 0) (received-append xs (sentOn c b ∷ []) ∙ append-nil _)
+unfolding wordOf receiptsOf sameDirection
+word-sent xs c b = ap (replay 0) (receipts-append xs (sentOn c b ∷ []) ∙ append-nil _)
 
-pub word-received : (xs : List Event) (c b : ℕ) → wordOf (xs ++ (receivedOn c b ∷ [])) ≡ enter (wordOf xs) b
-unfolding wordOf receivedBodies sameDirection
-word-received xs c b = ap (replay 0) (received-append xs (receivedOn c b ∷ [])) ∙ replay-snoc 0 (receivedBodies xs) b
+pub word-received : (xs : List Event) (c b : ℕ) → wordOf (xs ++ (receivedOn c b ∷ [])) ≡ enter (wordOf xs) (receipt c b)
+unfolding wordOf receiptsOf sameDirection
+word-received xs c b =
+    ap (replay 0) (receipts-append xs (receivedOn c b ∷ [])) ∙ replay-snoc 0 (receiptsOf xs) (receipt c b)
 
 -- marking at the end of a history leaves what stands before the mark
 pub before-end : (xs : List Event) → before (some (length xs)) xs ≡ xs

@@ -6,10 +6,10 @@ use mathlib.Core.Bool.{Bool}
 use mathlib.Core.List.{List}
 use Rattle.model.specs.declared.Entry.{Entry}
 use Rattle.model.specs.declared.Entry.the-variants.{Message}
-use Rattle.model.specs.Word.{enter}
+use Rattle.model.specs.Word.{receipt, enter}
 use Rattle.model.specs.Topology.{sender, receiver}
 use Rattle.model.specs.State.{GlobalState, LogCounts}
-use Rattle.model.specs.Change.{setEntries, withChannel, enterBody, withWord, withCounts}
+use Rattle.model.specs.Change.{setEntries, withChannel, enterMessage, withWord, withCounts}
 use Rattle.model.specs.History.{Event, History, sent, received, addEvent}
 use Rattle.model.proofs.laws.Functions.{by-index, upd-same, upd-other}
 use Rattle.model.proofs.laws.HistoryLaws.{receivedOn, received-elsewhere, receive-is-no-send}
@@ -41,7 +41,7 @@ module _ (s : GlobalState) (st : List ℕ) (h : History) (i : Inv s st h) (ends 
       → (counts .channels d ≡ s .counts .channels d)
       × (heldBy st′ n (s .counts .channels d) d ≡ heldBy st n (s .counts .channels d) d)) where
     abbrev delivered : GlobalState
-    delivered = enterBody r (Message b u) (setEntries c es (withCounts counts s))
+    delivered = enterMessage c r (Message b u) (setEntries c es (withCounts counts s))
 
     -- what becomes of the receiver, and of the channel
     abbrev pub ReceiverHolds : Type 0
@@ -58,16 +58,16 @@ module _ (s : GlobalState) (st : List ℕ) (h : History) (i : Inv s st h) (ends 
 
     processes : ReceiverHolds → (q : ℕ) → q < s .topology .processes
         → ProcessHolds (i .tag) (s .round .phase) q (processAt delivered st′ (addEvent r event h) q)
-    unfolding enterBody setEntries withChannel withWord withCounts
+    unfolding enterMessage setEntries withChannel withWord withCounts
     processes own =
         by-index (λ q. q < s .topology .processes
         → ProcessHolds (i .tag) (s .round .phase) q (processAt delivered st′ (addEvent r event h) q)) r
         (λ k.
-        rw (kept .slots r k, upd-same (s .word) r (enter (s .word r) b), book-added h r event) own)
+        rw (kept .slots r k, upd-same (s .word) r (enter (s .word r) (receipt c b)), book-added h r event) own)
         (λ q o k.
         rw (
           kept .slots q k,
-          upd-other (s .word) r q (enter (s .word r) b) o,
+          upd-other (s .word) r q (enter (s .word r) (receipt c b)) o,
           book-added-other h r event q o,
           slots q k o .0,
           slots q k o .1,
@@ -76,7 +76,7 @@ module _ (s : GlobalState) (st : List ℕ) (h : History) (i : Inv s st h) (ends 
 
     channels : ChannelTaken → (d : ℕ) → d < s .topology .channels
         → ChannelHolds (i .tag) (s .round .phase) (channelAt delivered st′ (addEvent r event h) d)
-    unfolding enterBody setEntries withChannel withWord withCounts
+    unfolding enterMessage setEntries withChannel withWord withCounts
     channels own =
         by-index (λ d. d < s .topology .channels
         → ChannelHolds (i .tag) (s .round .phase) (channelAt delivered st′ (addEvent r event h) d)) c
@@ -103,7 +103,7 @@ module _ (s : GlobalState) (st : List ℕ) (h : History) (i : Inv s st h) (ends 
         (i .channels d k))
 
     pub delivered-holds : ReceiverHolds → ChannelTaken → Inv delivered st′ (addEvent r event h)
-    unfolding enterBody setEntries withChannel withWord withCounts
+    unfolding enterMessage setEntries withChannel withWord withCounts
     delivered-holds receives arrived =
         record {
           sized = kept .sized;

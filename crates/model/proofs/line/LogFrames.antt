@@ -1,12 +1,13 @@
--- A body into one log of the pending slot: every other log stays, and the process or the channel whose log it is has
+-- A receipt into one log of the pending slot: every other log stays, and the process or the channel whose log it is has
 -- one entry more. Where the power is lost within the writes, nothing shows.
 use Prim.Native.Nat.{ℕ, _+_, _<_}
 use mathlib.Core.Path.{_≡_, refl, sym, ap, subst, _∙_}
 use mathlib.Core.List.{List, [], _∷_, map-append}
 use lib.ListN.{length, take}
 use native.Mathlib.Omega.{arith}
+use Rattle.model.specs.declared.Receipt.{Receipt}
 use Rattle.model.specs.Layout.{cell, physicalCell, Log, messageLog, channelLog, messagePlaces, channelPlaces}
-use Rattle.model.specs.Layout.{places, entriesBy, entryFor, bodyIn, bodiesBy}
+use Rattle.model.specs.Layout.{places, entriesBy, entryFor, receiptIn, bodyIn, receiptsBy, bodiesBy}
 use Rattle.model.specs.State.{GlobalState, countOf}
 use Rattle.model.specs.Write.{Write, writeAll, logWrites}
 use Rattle.model.specs.Start.{restoredBy}
@@ -56,18 +57,18 @@ logs (channelLog c) (channelLog d) = go (indices c d)
 
 module _ (s : GlobalState) (st : List ℕ) (h : History) (i : Inv s st h) (fits : Fits (s .topology) (s .counts))
     (log : Log)
-    (planned : Planned (s .topology) log) (b : ℕ) (room : countOf (s .counts) log < places log) where
+    (planned : Planned (s .topology) log) (r : Receipt) (room : countOf (s .counts) log < places log) where
   abbrev n : ℕ
   n = s .round .line + 1
 
   abbrev writes : List Write
-  writes = logWrites n log (countOf (s .counts) log) b
+  writes = logWrites n log (countOf (s .counts) log) r
 
   abbrev after : List ℕ
   after = writeAll st writes
 
   into : IntoLog n log writes
-  into = log-into n log (countOf (s .counts) log) b room
+  into = log-into n log (countOf (s .counts) log) r room
 
   pub log-spared : Spared s st after
   log-spared = spared-all i writes (log-in (s .topology) st (i .sized) n log planned writes into)
@@ -101,7 +102,7 @@ module _ (s : GlobalState) (st : List ℕ) (h : History) (i : Inv s st h) (fits 
       part = each-take (λ w. Of n log (w .cell)) x writes into
 
       behind : SameLog n log (countOf (s .counts) log) st (writeAll st (take x writes))
-      behind = log-lost (s .topology) st (i .sized) n log (countOf (s .counts) log) b planned room x k
+      behind = log-lost (s .topology) st (i .sized) n log (countOf (s .counts) log) r planned room x k
 
       slot : {other : Log} → Logs log other → (q : ℕ) → q < s .topology .processes → other ≡ messageLog q
           → slotBy (writeAll st (take x writes)) n (s .counts .messages q) q ≡ slotBy st n (s .counts .messages q) q
@@ -122,39 +123,39 @@ module _ (s : GlobalState) (st : List ℕ) (h : History) (i : Inv s st h) (fits 
           (subst (λ (y : Log). SameLog n y (countOf (s .counts) y) st (writeAll st (take x writes))) (e ∙ is) behind)
       held (two o) c l is = held-aside (take x writes) part c l (λ e. o (e ∙ sym is))
 
-module _ (s : GlobalState) (st : List ℕ) (h : History) (i : Inv s st h) (b : ℕ) where
-  -- the process whose log it is has its body entered, and the channel has it in its log
+module _ (s : GlobalState) (st : List ℕ) (h : History) (i : Inv s st h) (r : Receipt) where
+  -- the process whose log it is has it entered, and the channel has it in its log
   pub slot-logged : (q : ℕ) → q < s .topology .processes → s .counts .messages q < messagePlaces
-      → slotBy (writeAll st (logWrites (s .round .line + 1) (messageLog q) (s .counts .messages q) b))
+      → slotBy (writeAll st (logWrites (s .round .line + 1) (messageLog q) (s .counts .messages q) r))
       (s .round .line + 1)
       (s .counts .messages q + 1) q
-      ≡ loggedSlot b (processAt s st h q)
-  unfolding slotBy restoredBy bodiesBy
+      ≡ loggedSlot r (processAt s st h q)
+  unfolding slotBy restoredBy receiptsBy
   slot-logged q l room =
       let n : ℕ = s .round .line + 1 in
       let k : ℕ = s .counts .messages q in
       let log : Log = messageLog q in
-      let kept = log-physical (s .topology) st (i .sized) n log l (logWrites n log k b) (log-into n log k b room) q l in
+      let kept = log-physical (s .topology) st (i .sized) n log l (logWrites n log k r) (log-into n log k r room) q l in
       rw (
-        log-counted (s .topology) st (i .sized) n log k b l room,
-        log-appended (s .topology) st (i .sized) n log k b l room,
+        log-counted (s .topology) st (i .sized) n log k r l room,
+        log-appended (s .topology) st (i .sized) n log k r l room,
         kept,
-        map-append bodyIn (entriesBy st n log k) (entryFor log b ∷ []),
-        replay-snoc (cell st (physicalCell n q)) (bodiesBy st n log k) b,
+        map-append receiptIn (entriesBy st n log k) (entryFor log r ∷ []),
+        replay-snoc (cell st (physicalCell n q)) (receiptsBy st n q k) (receiptIn (entryFor log r)),
       )
 
   pub held-logged : (c : ℕ) → c < s .topology .channels → s .counts .channels c < channelPlaces
-      → heldBy (writeAll st (logWrites (s .round .line + 1) (channelLog c) (s .counts .channels c) b))
+      → heldBy (writeAll st (logWrites (s .round .line + 1) (channelLog c) (s .counts .channels c) r))
       (s .round .line + 1)
       (s .counts .channels c + 1) c
-      ≡ loggedHeld b (channelAt s st h c)
+      ≡ loggedHeld (r .body) (channelAt s st h c)
   unfolding heldBy bodiesBy
   held-logged c l room =
       let n : ℕ = s .round .line + 1 in
       let k : ℕ = s .counts .channels c in
       let log : Log = channelLog c in
       rw (
-        log-counted (s .topology) st (i .sized) n log k b l room,
-        log-appended (s .topology) st (i .sized) n log k b l room,
-        map-append bodyIn (entriesBy st n log k) (entryFor log b ∷ []),
+        log-counted (s .topology) st (i .sized) n log k r l room,
+        log-appended (s .topology) st (i .sized) n log k r l room,
+        map-append bodyIn (entriesBy st n log k) (entryFor log r ∷ []),
       )

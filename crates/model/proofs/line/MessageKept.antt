@@ -5,14 +5,16 @@ use mathlib.Core.Path.{_≡_, refl, sym}
 use mathlib.Core.Bool.{Bool}
 use mathlib.Core.List.{List, [], _∷_}
 use native.Mathlib.Omega.{arith}
+use Rattle.model.specs.declared.Receipt.{Receipt}
 use Rattle.model.specs.declared.Entry.{Entry}
 use Rattle.model.specs.declared.Entry.the-variants.{Message}
 use Rattle.model.specs.declared.Step.the-variants.{Receive}
+use Rattle.model.specs.Word.{receipt}
 use Rattle.model.specs.Topology.{receiver}
-use Rattle.model.specs.Channel.{bodyOf}
+use Rattle.model.specs.Channel.{receiptOf}
 use Rattle.model.specs.Layout.{Log, messageLog, channelLog, messagePlaces, channelPlaces}
 use Rattle.model.specs.State.{GlobalState, raised, raisedAll}
-use Rattle.model.specs.Change.{setEntries, enterBody, withCounts}
+use Rattle.model.specs.Change.{setEntries, enterMessage, withCounts}
 use Rattle.model.specs.Outcome.{accepted}
 use Rattle.model.specs.Write.{Result, writeAll, cellWrites, appendWrites, logWrites, logsWrites}
 use Rattle.model.specs.Receive.{Reaction, logsOnly}
@@ -38,8 +40,8 @@ abbrev pub receiveBy : Reaction → GlobalState → ℕ → Entry → List Entry
 receiveBy x s c e es =
     record {
       outcome = receivedOutcome e;
-      state = enterBody (receiver (s .topology) c) e (setEntries c es (react x c (receiver (s .topology) c) s));
-      writes = logsWrites (nextLine s) (s .counts) (x .logs) (bodyOf e);
+      state = enterMessage c (receiver (s .topology) c) e (setEntries c es (react x c (receiver (s .topology) c) s));
+      writes = logsWrites (nextLine s) (s .counts) (x .logs) (receiptOf c e);
     }
 
 -- it keeps the invariant, whether the power lasts or not
@@ -60,6 +62,9 @@ module _ (s : GlobalState) (st : List ℕ) (h : History) (i : Inv s st h) (ends 
   abbrev n : ℕ
   n = s .round .line + 1
 
+  abbrev got : Receipt
+  got = receipt c b
+
   -- what becomes of the receiver, with the message in its log or not, and of the channel
   abbrev pub Receives : Process → Type 0
   Receives v = ProcessHolds (i .tag) (s .round .phase) r v
@@ -79,7 +84,8 @@ module _ (s : GlobalState) (st : List ℕ) (h : History) (i : Inv s st h) (ends 
   -- in no log
   pub unlogged : Receives (receiving c b (process .count) (process .pending) process)
       → Leaves (leaving es arrived (channel .count) (channel .pending) channel)
-      → Inv (enterBody r (Message b u) (setEntries c es (withCounts (s .counts) s))) st (addEvent r (receivedOn c b) h)
+      → Inv (enterMessage c r (Message b u) (setEntries c es (withCounts (s .counts) s))) st
+      (addEvent r (receivedOn c b) h)
   unlogged receives leaves =
       delivered-holds s st h i ends c b u es l (s .counts) st (none-spared i) (λ q k o. (refl, refl))
       (λ d k o. (refl, refl))
@@ -96,7 +102,7 @@ module _ (s : GlobalState) (st : List ℕ) (h : History) (i : Inv s st h) (ends 
 
     -- in the receiver's message log
     pub message-logged : s .counts .messages r < messagePlaces
-        → Receives (receiving c b (process .count + 1) (loggedSlot b process) process)
+        → Receives (receiving c b (process .count + 1) (loggedSlot got process) process)
         → Leaves (leaving es arrived (channel .count) (channel .pending) channel)
         → Both s st h c (receiveBy (logsOnly (messageLog r ∷ [])) s c (Message b u) es)
     unfolding react logsOnly raisedAll raised logsWrites logWrites appendWrites cellWrites nextLine receivedOutcome
@@ -104,22 +110,25 @@ module _ (s : GlobalState) (st : List ℕ) (h : History) (i : Inv s st h) (ends 
     message-logged room receives leaves =
         let log : Log = messageLog r in
         let planned = ends c l .1 in
-        let writes = logWrites n log (s .counts .messages r) b in
-        let into = log-into n log (s .counts .messages r) b room in
+        let writes = logWrites n log (s .counts .messages r) got in
+        let into = log-into n log (s .counts .messages r) got room in
         record {
           lasts =
               rw told
               (delivered-holds s st h i ends c b u es l (raised log (s .counts)) (writeAll st writes)
-              (log-spared s st h i fits log planned b room)
+              (log-spared s st h i fits log planned got room)
               (λ q k o. (
                 upd-other (s .counts .messages) r q (s .counts .messages r + 1) o,
-                slot-aside s st h i fits log planned b room writes into q k (other-message o),
+                slot-aside s st h i fits log planned got room writes into q k (other-message o),
               ))
-              (λ d k o. (refl, held-aside s st h i fits log planned b room writes into d k message-is-no-channel))
-              (rw (upd-same (s .counts .messages) r (s .counts .messages r + 1), slot-logged s st h i b r planned room)
+              (λ d k o. (refl, held-aside s st h i fits log planned got room writes into d k message-is-no-channel))
+              (rw (
+                upd-same (s .counts .messages) r (s .counts .messages r + 1),
+                slot-logged s st h i got r planned room,
+              )
               receives)
-              (rw (held-aside s st h i fits log planned b room writes into c l message-is-no-channel) leaves));
-          lost = log-lost-kept s st h i fits log planned b room;
+              (rw (held-aside s st h i fits log planned got room writes into c l message-is-no-channel) leaves));
+          lost = log-lost-kept s st h i fits log planned got room;
         }
 
     -- in the channel's log
@@ -131,25 +140,25 @@ module _ (s : GlobalState) (st : List ℕ) (h : History) (i : Inv s st h) (ends 
         onStep onAccepted onReceive accepted
     channel-logged room receives leaves =
         let log : Log = channelLog c in
-        let writes = logWrites n log (s .counts .channels c) b in
-        let into = log-into n log (s .counts .channels c) b room in
+        let writes = logWrites n log (s .counts .channels c) got in
+        let into = log-into n log (s .counts .channels c) got room in
         record {
           lasts =
               rw told
               (delivered-holds s st h i ends c b u es l (raised log (s .counts)) (writeAll st writes)
-              (log-spared s st h i fits log l b room)
+              (log-spared s st h i fits log l got room)
               (λ q k o. (
                 refl,
-                slot-aside s st h i fits log l b room writes into q k
+                slot-aside s st h i fits log l got room writes into q k
                     (λ e. message-is-no-channel (sym e)),
               ))
               (λ d k o. (
                 upd-other (s .counts .channels) c d (s .counts .channels c + 1) o,
-                held-aside s st h i fits log l b room writes into d k (other-channel o),
+                held-aside s st h i fits log l got room writes into d k (other-channel o),
               ))
-              (rw (slot-aside s st h i fits log l b room writes into r (ends c l .1)
+              (rw (slot-aside s st h i fits log l got room writes into r (ends c l .1)
               (λ e. message-is-no-channel (sym e))) receives)
-              (rw (upd-same (s .counts .channels) c (s .counts .channels c + 1), held-logged s st h i b c l room)
+              (rw (upd-same (s .counts .channels) c (s .counts .channels c + 1), held-logged s st h i got c l room)
               leaves));
-          lost = log-lost-kept s st h i fits log l b room;
+          lost = log-lost-kept s st h i fits log l got room;
         }

@@ -13,7 +13,7 @@ use Rattle.model.specs.declared.Step.the-variants.{PhysicalCheckpoint}
 use Rattle.model.specs.Notation.{tabulate}
 use Rattle.model.specs.Word.{replay}
 use Rattle.model.specs.Channel.{bodies, messages}
-use Rattle.model.specs.Layout.{messageLog, channelLog, entriesFrom, entriesBy, bodiesBy}
+use Rattle.model.specs.Layout.{messageLog, channelLog, entriesFrom, entriesBy, receiptsBy, bodiesBy}
 use Rattle.model.specs.State.{GlobalState, noProgress}
 use Rattle.model.specs.Change.{inPhase, withRound, withProgress}
 use Rattle.model.specs.Outcome.{accepted}
@@ -83,7 +83,7 @@ module _ (s : GlobalState) (st : List ℕ) (h : History) (p : ℕ) (ends : EndsP
 
   -- this process and those before it are saved as they stand
   own-saved : slotBy after n (s .counts .messages p) p .word ≡ s .word p
-  unfolding slotBy restoredBy bodiesBy entriesBy entriesFrom tabulate replay
+  unfolding slotBy restoredBy receiptsBy entriesBy entriesFrom tabulate replay
   own-saved =
       rw (process-in i phase p (may .planned) .round .waiting (omega arith))
       (physical-written (s .topology) st (i .sized) n p (s .word p) (may .planned))

@@ -6,7 +6,8 @@ use lib.ListN.{length}
 use native.Mathlib.Omega.{arith}
 use Rattle.model.specs.declared.Phase.{Phase}
 use Rattle.model.specs.declared.Phase.the-variants.{Idle, Physical, Logical}
-use Rattle.model.specs.Word.{enter}
+use Rattle.model.specs.declared.Receipt.{Receipt}
+use Rattle.model.specs.Word.{receipt, enter}
 use Rattle.model.proofs.laws.HistoryLaws.{wordOf, before, marked, before-end, sentOn, receivedOn}
 use Rattle.model.proofs.laws.HistoryLaws.{word-sent, word-received}
 use Rattle.model.proofs.line.Values.{Book, Slot, Process}
@@ -32,7 +33,7 @@ withBook k v =
 abbrev pub receiving : ℕ → ℕ → ℕ → Slot → Process → Process
 receiving c b count slot v =
     record {
-      word = enter (v .word) b;
+      word = enter (v .word) (receipt c b);
       tag = v .tag;
       logical = v .logical;
       count = count;
@@ -42,8 +43,8 @@ receiving c b count slot v =
     }
 
 -- the pending slot with one more entry in the message log
-abbrev pub loggedSlot : ℕ → Process → Slot
-loggedSlot b v = record { word = enter (v .pending .word) b; count = v .count + 1 }
+abbrev pub loggedSlot : Receipt → Process → Slot
+loggedSlot r v = record { word = enter (v .pending .word) r; count = v .count + 1 }
 
 -- after the logical checkpoint: the mark is the end of the history
 abbrev pub atLogical : Process → Process
@@ -105,7 +106,7 @@ module _ {t : Bool} {p : ℕ} {v : Process} where
       → ProcessIn t ph p (receiving c b count slot v) → ProcessHolds t ph p (receiving c b count slot v)
   process-received ph c b count slot i round =
       record {
-        now = ap (λ (w : ℕ). enter w b) (i .now) ∙ sym (word-received (v .book .events) c b);
+        now = ap (λ (w : ℕ). enter w (receipt c b)) (i .now) ∙ sym (word-received (v .book .events) c b);
         within = omega (arith, i .within, one-longer (v .book .events) (receivedOn c b));
         finished = i .finished ∙ sym (line-longer wordOf (v .book) (receivedOn c b) (whole ph i));
         fits = i .fits;
@@ -129,19 +130,19 @@ module _ {t : Bool} {p : ℕ} {v : Process} where
       })
 
   pub received-saved : (next c b : ℕ) → p < next → ProcessHolds t (Physical next) p v
-      → ProcessHolds t (Physical next) p (receiving c b (v .count + 1) (loggedSlot b v) v)
+      → ProcessHolds t (Physical next) p (receiving c b (v .count + 1) (loggedSlot (receipt c b) v) v)
   received-saved next c b l i =
       process-received (Physical next) c b _ _ i
       (record {
         plain = record { tag = i .round .plain .tag; mark = i .round .plain .mark };
-        saved = λ k. ap (λ (w : ℕ). enter w b) (i .round .saved k);
+        saved = λ k. ap (λ (w : ℕ). enter w (receipt c b)) (i .round .saved k);
         waiting = λ k. absurd (omega arith);
         counted = refl;
       })
 
   -- in the logical phase, before its logical checkpoint and logged, or after it
   pub received-before : (c b : ℕ) → v .logical ≡ false → ProcessHolds t Logical p v
-      → ProcessHolds t Logical p (receiving c b (v .count + 1) (loggedSlot b v) v)
+      → ProcessHolds t Logical p (receiving c b (v .count + 1) (loggedSlot (receipt c b) v) v)
   unfolding before
   received-before c b e i =
       let none-yet = no-mark (i .round .mark) e in
@@ -150,7 +151,7 @@ module _ {t : Bool} {p : ℕ} {v : Process} where
       (record {
         tag = i .round .tag;
         mark = marked-longer _ (one-longer (v .book .events) (receivedOn c b)) (i .round .mark);
-        saved = ap (λ (w : ℕ). enter w b) as-now ∙ rw none-yet (sym (word-received (v .book .events) c b));
+        saved = ap (λ (w : ℕ). enter w (receipt c b)) as-now ∙ rw none-yet (sym (word-received (v .book .events) c b));
         counted = refl;
       })
 

@@ -15,7 +15,7 @@ use Rattle.model.specs.declared.Step.the-variants.{Receive}
 use Rattle.model.specs.Topology.{receiver}
 use Rattle.model.specs.Channel.{noEntry}
 use Rattle.model.specs.State.{GlobalState, raisedAll}
-use Rattle.model.specs.Change.{setEntries, withChannel, enterBody, withWord, withCounts, logicalCheckpoint}
+use Rattle.model.specs.Change.{setEntries, withChannel, enterMessage, withWord, withCounts, logicalCheckpoint}
 use Rattle.model.specs.Change.{withTag}
 use Rattle.model.specs.Change.{withProgress, withLogical, withClosed, close}
 use Rattle.model.specs.Outcome.{accepted}
@@ -49,7 +49,7 @@ use Rattle.model.proofs.line.MarkerReceived.{no-marker, marker-received
 new-received : (s : GlobalState) (st : List ℕ) (h : History) (i : Inv s st h) (ends : EndsPlanned (s .topology))
     (c b : ℕ) (u : Bool) (es : List Entry) (l : c < s .topology .channels) → s .round .phase ≡ Logical
     → s .progress .logical (receiver (s .topology) c) ≡ true → u ≡ not (i .tag) → s .channel c ≡ Message b u ∷ es
-    → Inv (enterBody (receiver (s .topology) c) (Message b u) (setEntries c es (withCounts (s .counts) s))) st
+    → Inv (enterMessage c (receiver (s .topology) c) (Message b u) (setEntries c es (withCounts (s .counts) s))) st
     (addEvent (receiver (s .topology) c) (receivedOn c b) h)
 new-received s st h i ends c b u es l phase flag new first =
     let r : ℕ = receiver (s .topology) c in
@@ -185,7 +185,7 @@ module _ (s : GlobalState) (st : List ℕ) (h : History) (c : ℕ) (l : c < s .t
 
         before-new : Kept (reaction s c (Message b u)) (Message b u) es
         unfolding reaction reactionTo react raisedAll logsWrites writeAll receivedOutcome onStep onAccepted onReceive
-            accepted logicalCheckpoint withTag withProgress withLogical withCounts setEntries withChannel enterBody
+            accepted logicalCheckpoint withTag withProgress withLogical withCounts setEntries withChannel enterMessage
             withWord
         before-new =
             reacts {x = record { logicalFirst = true; closes = false; logs = [] }} (Message b u) es (rw (phase, e, q))
@@ -210,7 +210,7 @@ module _ (s : GlobalState) (st : List ℕ) (h : History) (c : ℕ) (l : c < s .t
     marker : Tested (s .progress .logical r) → Kept (reaction s c Marker) Marker es
     unfolding reaction reactionTo react raisedAll logsWrites writeAll receivedOutcome onStep onAccepted onReceive
         accepted logicalCheckpoint withTag withProgress withLogical withClosed withCounts setEntries withChannel close
-        enterBody
+        enterMessage
         bookOf
         markUnmarked
     marker (holds e) =

@@ -16,14 +16,14 @@ use Rattle.model.specs.Check.{firstRefusal}
 use Rattle.model.specs.Word.{replay}
 use Rattle.model.specs.Topology.{sender, receiver, hasProcess, hasChannel, topologyRefusal}
 use Rattle.model.specs.Channel.{bodies, messages, markerless}
-use Rattle.model.specs.Layout.{storeCells, messageLog, channelLog, entriesFrom, entriesBy, bodiesBy}
-use Rattle.model.specs.Layout.{logged}
+use Rattle.model.specs.Layout.{storeCells, messageLog, channelLog, entriesFrom, entriesBy, receiptsBy}
+use Rattle.model.specs.Layout.{bodiesBy, logged}
 use Rattle.model.specs.State.{GlobalState, idleState}
 use Rattle.model.specs.Write.{writeAll}
 use Rattle.model.specs.Start.{Startup, startupOr, initialize, initializeRefusal, initializeWrites, storedLine}
 use Rattle.model.specs.Start.{countFits, countsFit, recover, recoverRefusal, restoredBy, restored, recoveredWord}
 use Rattle.model.specs.Start.{recoveredChannel}
-use Rattle.model.specs.History.{Event, History, newHistory, sent, received, bodiesOn, receivedBodies}
+use Rattle.model.specs.History.{Event, History, newHistory, sent, received, bodiesOn, receiptsOf}
 use Rattle.model.specs.History.{onRecover}
 use Rattle.model.specs.Claim.{Recovered}
 use Rattle.model.proofs.laws.Tests.{and-both}
@@ -74,12 +74,12 @@ module _ (s : GlobalState) (st : List ℕ) (h : History) (good : topologyRefusal
     unfolding recoveredWord hasProcess slotOf bookOf
     word-is p l = rw (lt-ltb p (T .processes) l, line-is) (i .processes p l .finished)
 
-    channel-is : (c : ℕ) → c < T .channels → recoveredChannel T st c ≡ messages false (logged st k (channelLog c))
+    channel-is : (c : ℕ) → c < T .channels → recoveredChannel T st c ≡ messages false (logged st k c)
     unfolding recoveredChannel hasChannel
     channel-is c l = rw (lt-ltb c (T .channels) l, line-is)
 
-    bodies-are : (c : ℕ) → c < T .channels → bodies (recoveredChannel T st c) ≡ logged st k (channelLog c)
-    bodies-are c l = ap bodies (channel-is c l) ∙ bodies-messages false (logged st k (channelLog c))
+    bodies-are : (c : ℕ) → c < T .channels → bodies (recoveredChannel T st c) ≡ logged st k c
+    bodies-are c l = ap bodies (channel-is c l) ∙ bodies-messages false (logged st k c)
 
     balanced : (c : ℕ) → c < T .channels
         → bodiesOn sent c (shortened h (sender T c))
@@ -99,7 +99,7 @@ module _ (s : GlobalState) (st : List ℕ) (h : History) (good : topologyRefusal
           idle = refl;
           line = refl;
           channels = balanced;
-          markerless = λ c l. ap markerless (channel-is c l) ∙ messages-markerless false (logged st k (channelLog c));
+          markerless = λ c l. ap markerless (channel-is c l) ∙ messages-markerless false (logged st k c);
           words = word-is;
         })
 
@@ -128,7 +128,7 @@ module _ (s : GlobalState) (st : List ℕ) (h : History) (good : topologyRefusal
                 now = balanced c l;
                 finished =
                     shortened-again (bodiesOn sent c) (sender T c) ∙ i .channels c l .finished
-                    ∙ ap (λ (x : List ℕ). x ++ logged st k (channelLog c))
+                    ∙ ap (λ (x : List ℕ). x ++ logged st k c)
                     (sym (shortened-again (bodiesOn received c) (receiver T c)));
                 fits = i .channels c l .fits;
                 round = channel-is c l ∙ ap (messages false) (sym (bodies-are c l));
@@ -169,7 +169,7 @@ module _ (T : Topology) (store : List ℕ) (accepted : initialize T store .refus
   blank = initialized T store (sized-start T store no-refusal)
 
   blank-word : (p : ℕ) → p < T .processes → slotOf after 0 p .word ≡ 0
-  unfolding slotOf restored restoredBy bodiesBy entriesBy entriesFrom tabulate replay
+  unfolding slotOf restored restoredBy receiptsBy entriesBy entriesFrom tabulate replay
   blank-word p l = rw (blank .counts (messageLog p) l) (blank .physical p l)
 
   blank-log : (c : ℕ) → c < T .channels → heldOf after 0 c .bodies ≡ []
@@ -177,7 +177,7 @@ module _ (T : Topology) (store : List ℕ) (accepted : initialize T store .refus
   blank-log c l = rw (blank .counts (channelLog c) l)
 
   pub initialize-holds : Inv (initialize T store .state) (initialize T store .store) newHistory
-  unfolding idleState newHistory bookOf seenOf slotOf heldOf wordOf receivedBodies replay bodiesOn bodies messages
+  unfolding idleState newHistory bookOf seenOf slotOf heldOf wordOf receiptsOf replay bodiesOn bodies messages
   initialize-holds =
       subst (λ (r : Startup). Inv (r .state) (r .store) newHistory) (sym initialize-is)
       (record {

@@ -79,10 +79,10 @@ unfoldable pub slotBy : List ℕ → ℕ → ℕ → ℕ → Slot
 slotBy st n k p = record { word = restoredBy st n p k; count = cell st (countCell n (messageLog p)) }
 
 unfoldable pub heldOf : List ℕ → ℕ → ℕ → Held
-heldOf st n c = record { bodies = logged st n (channelLog c); count = cell st (countCell n (channelLog c)) }
+heldOf st n c = record { bodies = logged st n c; count = cell st (countCell n (channelLog c)) }
 
 unfoldable pub heldBy : List ℕ → ℕ → ℕ → ℕ → Held
-heldBy st n k c = record { bodies = bodiesBy st n (channelLog c) k; count = cell st (countCell n (channelLog c)) }
+heldBy st n k c = record { bodies = bodiesBy st n c k; count = cell st (countCell n (channelLog c)) }
 
 module _ (s : GlobalState) (st : List ℕ) (h : History) where
   abbrev pub processAt : ℕ → Process

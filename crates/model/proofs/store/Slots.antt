@@ -6,8 +6,9 @@ use mathlib.Core.List.{List, [], _∷_, _++_, List·Memᴰ}
 use lib.ListN.{length, take}
 use native.Mathlib.Omega.{arith}
 use Rattle.model.specs.declared.Topology.{Topology}
+use Rattle.model.specs.declared.Receipt.{Receipt}
 use Rattle.model.specs.Layout.{cell, lineCell, physicalCell, Log, messageLog, channelLog, places, entryCells}
-use Rattle.model.specs.Layout.{countCell, entryCell, entriesFrom, entriesBy, entryFor, bodiesBy}
+use Rattle.model.specs.Layout.{countCell, entryCell, entriesFrom, entriesBy, entryFor, receiptsBy}
 use Rattle.model.specs.Write.{Write, writeAll, clearWrites, physicalWrites, cellWrites, appendWrites, logWrites}
 use Rattle.model.specs.Write.{commitWrites}
 use Rattle.model.specs.Start.{initializeWrites, restoredBy}
@@ -33,7 +34,7 @@ pub record SameProcess (n p k : ℕ) (st st′ : List ℕ) : Type 0 where
 
 pub restored-same : (n p k : ℕ) {st st′ : List ℕ} → SameProcess n p k st st′
     → restoredBy st′ n p k ≡ restoredBy st n p k
-unfolding restoredBy bodiesBy
+unfolding restoredBy receiptsBy
 restored-same n p k e = rw (e .physical, e .log .entries)
 
 -- where the cells that are read of a log with k entries are kept, the log is the same
@@ -57,17 +58,18 @@ abbrev pub IntoLog : ℕ → Log → List Write → Type 0
 IntoLog n log ws = Each (λ w. Of n log (w .cell)) ws
 
 -- an entry has its log's number of cells
-entry-length : (log : Log) (body : ℕ) → length (entryFor log body) ≡ entryCells log
-entry-length (messageLog p) body = refl
-entry-length (channelLog c) body = refl
+entry-length : (log : Log) (r : Receipt) → length (entryFor log r) ≡ entryCells log
+entry-length (messageLog p) r = refl
+entry-length (channelLog c) r = refl
 
-pub log-into : (n : ℕ) (log : Log) (count body : ℕ) → count < places log → IntoLog n log (logWrites n log count body)
+pub log-into : (n : ℕ) (log : Log) (count : ℕ) (r : Receipt) → count < places log
+    → IntoLog n log (logWrites n log count r)
 unfolding logWrites appendWrites
-log-into n log count body l =
-    let entry : List ℕ = entryFor log body in
+log-into n log count r l =
+    let entry : List ℕ = entryFor log r in
     let first : ℕ = entryCell (length entry) (countCell n log) count in
     let hi : ℕ = placeAt n log (places log) in
-    let end : first + length entry ≤ hi = rw (entry-length log body)
+    let end : first + length entry ≤ hi = rw (entry-length log r)
     (omega (arith, entry-ends (entryCells log) count (places log) l)) in
     each-append (λ w. Of n log (w .cell)) (cellWrites first entry) _
     (each-map (λ w. Between first hi (w .cell)) (λ w. Of n log (w .cell))
@@ -181,18 +183,18 @@ module _ (T : Topology) (st : List ℕ) (sized : Sized T st) where
     log-physical p l = aside (physicalCell n p) (no-log sized n p log l planned)
 
   -- a logged message: its log is one longer
-  module _ (n : ℕ) (log : Log) (count body : ℕ) (planned : Planned T log) (room : count < places log) where
+  module _ (n : ℕ) (log : Log) (count : ℕ) (r : Receipt) (planned : Planned T log) (room : count < places log) where
     abbrev at : ℕ
     at = countCell n log
 
     abbrev entry : List ℕ
-    entry = entryFor log body
+    entry = entryFor log r
 
     abbrev after : List ℕ
-    after = writeAll st (logWrites n log count body)
+    after = writeAll st (logWrites n log count r)
 
     inside : entryCell (length entry) at count + length entry ≤ length st
-    inside = rw (entry-length log body) (entry-inside sized n log count planned room)
+    inside = rw (entry-length log r) (entry-inside sized n log count planned room)
 
     pub log-counted : cell after at ≡ count + 1
     unfolding logWrites
@@ -202,15 +204,15 @@ module _ (T : Topology) (st : List ℕ) (sized : Sized T st) where
     unfolding entriesBy logWrites
     log-appended =
         subst (λ (w : ℕ). entriesFrom after w at (count + 1) ≡ entriesFrom st w at count ++ (entry ∷ []))
-        (entry-length log body) (appends st at count entry inside)
+        (entry-length log r) (appends st at count entry inside)
 
     -- power lost before the count is written: the entry that may be there is behind those that are read
-    pub log-lost : (b : ℕ) → b < length (logWrites n log count body)
-        → SameLog n log count st (writeAll st (take b (logWrites n log count body)))
+    pub log-lost : (b : ℕ) → b < length (logWrites n log count r)
+        → SameLog n log count st (writeAll st (take b (logWrites n log count r)))
     unfolding logWrites
     log-lost b l =
-        kept-log st (writeAll st (take b (logWrites n log count body))) n log count
-        (λ a r. append-lost st at count entry b l a (rw (entry-length log body) (r .to)))
+        kept-log st (writeAll st (take b (logWrites n log count r))) n log count
+        (λ a read. append-lost st at count entry b l a (rw (entry-length log r) (read .to)))
 
   -- commit: the line cell, and no slot
   module _ (n : ℕ) where

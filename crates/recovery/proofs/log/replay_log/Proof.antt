@@ -1,29 +1,33 @@
--- `recovery::log::replay_log` meets its contract. The loop's invariant: the first i bodies have entered the word.
+-- `recovery::log::replay_log` meets its contract. The loop's invariant: the first i receipts have entered the word.
 use borrow.Author.Needs.{needs}
 use native.Mathlib.Omega.{arith}
 use Prim.Native.Nat.{ℕ, _+_, _-_, _≤_}
 use mathlib.Core.Path.{_≡_, refl, sym, ap, _∙_}
 use mathlib.Core.List.{List, map, map-append}
 use Rattle.model.specs.Notation.{tabulate}
-use Rattle.model.specs.Word.{enter, replay}
-use Rattle.model.specs.Layout.{cell, messageEntryCells, entryCell, cellsFrom, entriesFrom, bodyIn}
+use Rattle.model.specs.declared.Receipt.{Receipt}
+use Rattle.model.specs.Word.{receipt, enter, replay}
+use Rattle.model.specs.Layout.{cell, messageEntryCells, entryCell, cellsFrom, entriesFrom, receiptIn}
 use Rattle.model.proofs.laws.Lists.{tabulate-more}
 use Rattle.model.proofs.laws.HistoryLaws.{replay-snoc}
 use Rattle.recovery.proofs.log.replay_log.Statement.{statement}
 use Rattle.recovery.proofs.log.replay_log.Tie as tie
 
--- the first i bodies of the log, and one more
-abbrev first : List ℕ → ℕ → ℕ → List ℕ
-first store at i = map bodyIn (entriesFrom store messageEntryCells at i)
+-- the first i receipts of the log, and one more
+abbrev first : List ℕ → ℕ → ℕ → List Receipt
+first store at i = map receiptIn (entriesFrom store messageEntryCells at i)
+
+abbrev receiptAt : List ℕ → ℕ → Receipt
+receiptAt store entry = receipt (cell store (entry + 1)) (cell store entry)
 
 replay-more : (store : List ℕ) (at i word : ℕ)
     → replay word (first store at (i + 1))
-    ≡ enter (replay word (first store at i)) (cell store (entryCell messageEntryCells at i))
+    ≡ enter (replay word (first store at i)) (receiptAt store (entryCell messageEntryCells at i))
 unfolding entriesFrom cellsFrom
 replay-more store at i word =
     ap (replay word)
-    (ap (map bodyIn) (tabulate-more i (λ j. cellsFrom store messageEntryCells (entryCell messageEntryCells at j)))
-    ∙ map-append bodyIn (entriesFrom store messageEntryCells at i) _)
+    (ap (map receiptIn) (tabulate-more i (λ j. cellsFrom store messageEntryCells (entryCell messageEntryCells at j)))
+    ∙ map-append receiptIn (entriesFrom store messageEntryCells at i) _)
     ∙ replay-snoc word (first store at i) _
 
 abbrev Inv-loop : tie.InvT-loop
@@ -39,8 +43,8 @@ loop-holds c = (omega arith, refl)
 loop-again : tie.Need-loop-again Inv-loop μ-loop
 unfolding cell
 loop-again c =
-    let l = c .before .before .before .loop in
-    let a = c .before .before .before .before .before .before .args in
+    let l = c .before .before .before .before .loop in
+    let a = c .before .before .before .before .before .before .before .args in
     (omega arith, c .enter .ensures ∙ rw (l .inv .1) (sym (replay-more (a .store .now) (a .at) (l .i) (a .word))))
 
 returns : tie.Need-returns Inv-loop μ-loop
@@ -62,6 +66,9 @@ replay-log-spec =
     (λ c. omega arith)
     (λ c. omega arith)
     loop-holds
+    (λ c. omega arith)
+    (λ c. omega arith)
+    (λ c. omega arith)
     (λ c. omega arith)
     (λ c. omega arith)
     (λ c. omega arith)

@@ -10,10 +10,10 @@ use lib.ListN.{length, getD, length-set}
 use Rattle.model.specs.Channel.{entries, messages}
 use Rattle.model.specs.State.{emptyChannel}
 use Rattle.model.specs.Topology.{channelLimit}
-use Rattle.model.specs.Layout.{cell, Log, channelLog, channelEntryCells, entriesBy, bodiesBy, logged}
+use Rattle.model.specs.Layout.{cell, Log, channelLog, entriesBy, bodiesBy, logged}
 use Rattle.model.proofs.laws.Functions.{filledBelow, filled-none, filled-more}
 use Rattle.model.specs.Start.{storedLine}
-use Rattle.recovery.specs.Starts.{loggedAt}
+use Rattle.recovery.specs.Starts.{bodiesAt}
 use Rattle.recovery.proofs.Recovering.{no-entries}
 use Rattle.recovery.proofs.Recovering.{Readable, readable, last-in-store, channelOf, channels-below}
 use Rattle.recovery.proofs.start.channels.Statement.{statement}
@@ -59,7 +59,7 @@ loop-again c =
     let l = t .before .before .loop in
     let st = start t .args .store .now in
     let filled : entries (c .fill .result) ≡ channelOf st (at t) = c .fill .ensures
-    ∙ ap (λ (a : ℕ). messages false (loggedAt channelEntryCells st a)) (c .before .channel-count-cell .ensures) in
+    ∙ ap (λ (a : ℕ). messages false (bodiesAt st a)) (c .before .channel-count-cell .ensures) in
     let inside : at t < length (l .r) = omega (arith, known (start t) .sized .channels) in (
       omega arith,
       simp length-set (l .inv .1),

@@ -7,11 +7,10 @@ use native.Mathlib.Omega.{arith}
 use lib.ListN.{length, getD, length-set}
 use Rattle.model.specs.Word.{replay}
 use Rattle.model.specs.Topology.{processLimit}
-use Rattle.model.specs.Layout.{cell, slot, processRecord, physicalCell, messageLog, messageEntryCells, entriesBy}
-use Rattle.model.specs.Layout.{bodiesBy}
+use Rattle.model.specs.Layout.{cell, slot, processRecord, physicalCell, messageLog, entriesBy, receiptsBy}
 use Rattle.model.specs.Start.{storedLine, restoredBy, restored}
 use Rattle.model.proofs.laws.Functions.{seen-replicate, filledBelow, filled-none, filled-more}
-use Rattle.recovery.specs.Starts.{loggedAt}
+use Rattle.recovery.specs.Starts.{receiptsAt}
 use Rattle.recovery.proofs.Recovering.{Readable, readable, last-in-store, wordOf, words-below}
 use Rattle.recovery.proofs.start.words.Statement.{statement}
 use Rattle.recovery.proofs.start.words.Tie as tie
@@ -57,13 +56,13 @@ array-write-r : tie.Need-array-write-r Inv-loop μ-loop
 array-write-r c = omega (arith, known (start (c .before .before .before .before)) .sized .processes)
 
 loop-again : tie.Need-loop-again Inv-loop μ-loop
-unfolding storedLine cell restored restoredBy bodiesBy entriesBy
+unfolding storedLine cell restored restoredBy receiptsBy entriesBy
 loop-again c =
     let t = c .before .before .before .before in
     let l = t .before .before .loop in
     let st = start t .args .store .now in
     let word : c .replay-log .result ≡ wordOf st (at t) = c .replay-log .ensures
-    ∙ ap₂ (λ (a b : ℕ). replay (cell st a) (loggedAt messageEntryCells st b))
+    ∙ ap₂ (λ (a b : ℕ). replay (cell st a) (receiptsAt st b))
     (c .before .before .before .physical-cell .ensures) (c .before .message-count-cell .ensures) in
     let inside : at t < length (l .r) = omega (arith, known (start t) .sized .processes) in (
       omega arith,
