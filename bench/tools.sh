@@ -12,10 +12,14 @@ build_speed() { # FOLDER LOG
     (cd "$1" && rt check speed) >"$2" 2>&1 || { cat "$2" >&2; return 1; }
 }
 
+compile() { # SOURCE PROGRAM
+    rustc --edition 2021 -O -A dead_code "$1" -o "$2"
+}
+
 build_rust() { # NAME ..
     local name
     for name in "$@"; do
-        rustc --edition 2021 -O -A dead_code "bench/rust/$name.rs" -o "$out/$name"
+        compile "bench/rust/$name.rs" "$out/$name"
     done
 }
 

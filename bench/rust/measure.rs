@@ -25,7 +25,7 @@ const NAMES: [&str; SIDES] = ["proved", "in place", "by value"];
 
 /// Nanoseconds a unit, for each side.
 fn time(programs: &[String], work: &Work) -> Result<[f64; SIDES], String> {
-    let turns = works::turns(programs, work, TURNS)?;
+    let turns = works::turns(programs, &[work; SIDES], TURNS)?;
     if turns.sums.iter().any(|sum| *sum != turns.sums[0]) {
         return Err(format!("{}: the checksums differ: {:?}", work.name, turns.sums));
     }

@@ -1,9 +1,11 @@
-//! The works that are measured, and how: programs run on the same input one after the other, again and again, and
-//! callgrind's counts.
+//! The works that are measured, as files too, and how: programs run on their inputs one after the other, again and
+//! again, and callgrind's counts.
 
 use crate::stream;
 use crate::types::Topology;
+use std::fs;
 use std::io::Write;
+use std::path::Path;
 use std::process::{Command, Stdio};
 use std::time::Instant;
 
@@ -23,6 +25,53 @@ impl Work {
         bytes.extend(&self.rest);
         bytes
     }
+
+    /// Whether a program that is timed reads the same bytes.
+    pub fn same_input(&self, other: &Work) -> bool {
+        self.input(self.times) == other.input(other.times)
+    }
+
+    /// The file of a work: name, units and times, a line each, then its input without the count.
+    fn to_file(&self) -> Vec<u8> {
+        let head = format!("{}\n{}\n{}\n", self.name, self.units, self.times);
+        [head.as_bytes(), &[self.mode], &self.rest].concat()
+    }
+
+    fn from_file(bytes: &[u8]) -> Option<Work> {
+        let mut parts = bytes.splitn(4, |&byte| byte == b'\n');
+        let mut line = || std::str::from_utf8(parts.next()?).ok();
+        let (name, units, times) = (line()?, line()?, line()?);
+        let (&mode, rest) = parts.next()?.split_first()?;
+        Some(Work {
+            name: name.to_string(),
+            units: units.parse().ok()?,
+            times: times.parse().ok()?,
+            mode,
+            rest: rest.to_vec(),
+        })
+    }
+}
+
+/// Works as the files of a folder, which is made where there is none.
+pub fn write(works: &[Work], folder: &Path) -> Result<(), String> {
+    let fault = |error| format!("{}: {error}", folder.display());
+    fs::create_dir_all(folder).map_err(fault)?;
+    for (number, work) in works.iter().enumerate() {
+        fs::write(folder.join(number.to_string()), work.to_file()).map_err(fault)?;
+    }
+    Ok(())
+}
+
+/// The works of a folder, in no certain order.
+pub fn read(folder: &Path) -> Result<Vec<Work>, String> {
+    let fault = |error| format!("{}: {error}", folder.display());
+    let mut works = Vec::new();
+    for file in fs::read_dir(folder).map_err(fault)? {
+        let path = file.map_err(fault)?.path();
+        let work = Work::from_file(&fs::read(&path).map_err(fault)?);
+        works.push(work.ok_or(format!("{} has no work", path.display()))?);
+    }
+    Ok(works)
 }
 
 pub fn work(name: &str, units: usize, times: u32, mode: u8, t: &Topology, data: &[u8]) -> Work {
@@ -69,17 +118,18 @@ pub struct Turns {
     pub sums: Vec<String>,
 }
 
-/// Every turn runs all programs on a work's input, one after the other, and every other turn in the other order. Each
-/// program has to print the same checksum in every turn.
-pub fn turns(programs: &[String], work: &Work, count: usize) -> Result<Turns, String> {
-    let input = work.input(work.times);
+/// Every turn runs all programs, each on the input of its work, one after the other, and every other turn in the other
+/// order. Each program has to print the same checksum in every turn.
+pub fn turns(programs: &[String], works: &[&Work], count: usize) -> Result<Turns, String> {
+    let inputs: Vec<Vec<u8>> = works.iter().map(|work| work.input(work.times)).collect();
     let mut all = Turns { times: Vec::new(), sums: vec![String::new(); programs.len()] };
     for turn in 0..count {
         let mut times = vec![0.0; programs.len()];
         for place in 0..programs.len() {
             let side = if turn % 2 == 0 { place } else { programs.len() - 1 - place };
+            let work = works[side];
             let start = Instant::now();
-            let sum = run(&mut Command::new(&programs[side]), &input)?;
+            let sum = run(&mut Command::new(&programs[side]), &inputs[side])?;
             times[side] =
                 start.elapsed().as_nanos() as f64 / (work.units as f64 * work.times as f64);
             if turn == 0 {
@@ -116,8 +166,8 @@ fn counted(program: &str, input: &[u8]) -> Result<f64, String> {
     command.arg("--tool=callgrind").arg("--callgrind-out-file=/dev/null");
     command.arg(format!("--log-file={}", log.display())).arg(program);
     run(&mut command, input)?;
-    let said = std::fs::read_to_string(&log).map_err(|error| error.to_string())?;
-    std::fs::remove_file(&log).map_err(|error| error.to_string())?;
+    let said = fs::read_to_string(&log).map_err(|error| error.to_string())?;
+    fs::remove_file(&log).map_err(|error| error.to_string())?;
     let collected = said.lines().find_map(|line| line.split("Collected : ").nth(1));
     let count = collected.and_then(|count| count.trim().parse().ok());
     count.ok_or("no count in callgrind's log".to_string())
