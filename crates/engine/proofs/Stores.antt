@@ -11,12 +11,12 @@ use Rattle.model.proofs.store.Writes.{length-writeAll}
 use Rattle.engine.specs.Spent.{Spent, oneWrite}
 
 -- what lasts for xs and then ys: xs first, and ys with what is left
-writeAll-append : (st : List ℕ) (b : ℕ) (xs ys : List Write)
+lasting-append : (st : List ℕ) (b : ℕ) (xs ys : List Write)
     → writeAll st (take b (xs ++ ys)) ≡ writeAll (writeAll st (take b xs)) (take (b - length xs) ys)
 unfolding writeAll
-writeAll-append st b [] ys = simp (unary-clauses, take-nil)
-writeAll-append st zero (x ∷ xs) ys = let e : 0 - length (x ∷ xs) ≡ 0 = omega arith in rw e
-writeAll-append st (suc b) (x ∷ xs) ys = writeAll-append (write st x) b xs ys ∙ simp unary-clauses
+lasting-append st b [] ys = simp (unary-clauses, take-nil)
+lasting-append st zero (x ∷ xs) ys = let e : 0 - length (x ∷ xs) ≡ 0 = omega arith in rw e
+lasting-append st (suc b) (x ∷ xs) ys = lasting-append (write st x) b xs ys ∙ simp unary-clauses
 
 -- values into the cells from `at` on, one more of them
 cells-append : (at : ℕ) (xs ys : List ℕ)
@@ -50,7 +50,7 @@ module _ {st st′ : List ℕ} {b b′ : ℕ} {xs : List Write} (p : Spent st b 
   pub spent-then : {st″ : List ℕ} {b″ : ℕ} {ys : List Write} → Spent st′ b′ ys st″ b″ → Spent st b (xs ++ ys) st″ b″
   spent-then {st″} {b″} {ys} q =
       record {
-        store = q .store ∙ rw (p .store, p .left) (sym (writeAll-append st b xs ys));
+        store = q .store ∙ rw (p .store, p .left) (sym (lasting-append st b xs ys));
         left = omega (arith, length-append xs ys, p .left, q .left);
       }
 

@@ -7,7 +7,7 @@ use mathlib.Core.List.{[], _∷_}
 use Rattle.model.specs.Word.{receipt, replay}
 use Rattle.model.specs.Topology.{channelLimit}
 
--- the same body from channels c and d: only one channel makes the same word in either order
+-- the same body from channels c and d makes the same word in both orders only where c and d are one channel
 abbrev pub OrderShows : Type 0
 OrderShows =
     (word body c d : ℕ) → c < channelLimit → d < channelLimit

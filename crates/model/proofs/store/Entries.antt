@@ -24,7 +24,7 @@ pub record Between (lo hi a : ℕ) : Type 0 where
   pub to : a < hi
 
 -- cells that are the same in two stores hold the same
-pub cells-same : (st st′ : List ℕ) (w at : ℕ) → ((a : ℕ) → Between at (at + w) a → cell st′ a ≡ cell st a)
+cells-same : (st st′ : List ℕ) (w at : ℕ) → ((a : ℕ) → Between at (at + w) a → cell st′ a ≡ cell st a)
     → cellsFrom st′ w at ≡ cellsFrom st w at
 unfolding cellsFrom
 cells-same st st′ zero at h = refl
@@ -52,7 +52,7 @@ cells-into lo hi at [] l m = tt
 cells-into lo hi at (v ∷ vs) l m =
     (record { from = l; to = omega arith }, cells-into lo hi (at + 1) vs (omega arith) (omega arith))
 
-pub cells-outside : (st : List ℕ) (at : ℕ) (vs : List ℕ) (a : ℕ) → (Between at (at + length vs) a → ⊥)
+cells-outside : (st : List ℕ) (at : ℕ) (vs : List ℕ) (a : ℕ) → (Between at (at + length vs) a → ⊥)
     → cell (writeAll st (cellWrites at vs)) a ≡ cell st a
 cells-outside st at vs a h =
     kept st (cellWrites at vs) a
@@ -60,7 +60,7 @@ cells-outside st at vs a h =
     (cellWrites at vs)
     (cells-into at (at + length vs) at vs (omega arith) (omega arith)))
 
-pub cells-written : (st : List ℕ) (at : ℕ) (vs : List ℕ) → at + length vs ≤ length st
+cells-written : (st : List ℕ) (at : ℕ) (vs : List ℕ) → at + length vs ≤ length st
     → cellsFrom (writeAll st (cellWrites at vs)) (length vs) at ≡ vs
 unfolding cellsFrom writeAll cellWrites
 cells-written st at [] l = refl
