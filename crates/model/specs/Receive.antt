@@ -1,5 +1,5 @@
 -- Document 01's two paragraphs on Take: what an entry does to its receiver as it is received. Whether it gives the
--- receiver its logical checkpoint first, whether it closes its channel, and which logs its body goes into, is decided
+-- receiver its logical checkpoint first, whether it closes its channel, and which logs it goes into, is decided
 -- here and nowhere else: what turns a receive down and what it changes both follow from it.
 use Prim.Native.Nat.{ℕ}
 use mathlib.Core.Bool.{Bool, true, false, cond, not, _||_, Bool·beq}

@@ -10,7 +10,7 @@ ghost use Rattle.model.specs.Step.{receivedOutcome};
 ghost use Rattle.rules.specs.Reacting.{Reacts, logging};
 
 // Whether the receiver gets its logical checkpoint first (is marked), whether the channel is closed, and the logs that
-// the body goes into, in this order. specs/Reacting.antt has its meaning.
+// it goes into, in this order. specs/Reacting.antt has its meaning.
 pub struct Reaction {
     pub logical_first: bool,
     pub closes: bool,
