@@ -14,7 +14,7 @@ use Rattle.model.specs.declared.Entry.{Entry}
 use Rattle.model.specs.Topology.{processLimit, channelLimit, sender, receiver, topologyRefusal}
 use Rattle.model.specs.Channel.{channelRoom, entries}
 use Rattle.model.specs.Phase.{isIdle}
-use Rattle.model.specs.Layout.{storeCells, messagePlaces, channelPlaces, messageLog, channelLog}
+use Rattle.model.specs.Layout.{present, storeCells, messagePlaces, channelPlaces, messageLog, channelLog}
 use Rattle.model.specs.State.{view, viewCounts}
 use Rattle.model.specs.Sound.{sound, lastLine, lineSound}
 use Rattle.model.proofs.laws.ChannelLaws.{entries-count}
@@ -38,8 +38,8 @@ module _ (s : State) (h : sound (view s) ≡ true) where
   pub sizes-fit : SizesFit (s .topology .processes) (s .topology .channels)
   sizes-fit = accepted-sizes (s .topology) accepted
 
-  pub sound-sized : (st : List ℕ) → storeCells ≤ length st → Sized (s .topology) st
-  sound-sized st l = sized-topology (s .topology) st accepted l
+  pub sound-sized : (st : List ℕ) → storeCells ≤ length st → Sized present (s .topology) st
+  sound-sized st l = sized-topology present (s .topology) st accepted l
 
   -- a round under way is for a line that has a number
   pub next-line-fits : isIdle (s .round .phase) ≡ false → s .round .line < 2 ^ 32 → s .round .line + 1 < 2 ^ 32

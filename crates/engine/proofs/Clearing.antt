@@ -6,10 +6,11 @@ use lib.ListN.{length, length-append}
 use native.Mathlib.Omega.{arith}
 use Rattle.model.specs.declared.Topology.{Topology}
 use Rattle.model.specs.Notation.{tabulate, concatBelow}
-use Rattle.model.specs.Layout.{lineCell, processCells, channelCells, processRecord, physicalCell}
+use Rattle.model.specs.Layout.{present, lineCell, processCells, channelCells, physicalCell}
 use Rattle.model.specs.Layout.{messageLog, channelLog, countCell}
 use Rattle.model.specs.Write.{writeAll, clearWrites, commitWrites}
 use Rattle.model.specs.Start.{initializeWrites}
+use Rattle.model.specs.Form as form
 use Rattle.model.proofs.laws.Lists.{tabulate-length, tabulate-cong}
 use Rattle.model.proofs.store.Addresses.{message-cell, channel-cell}
 use Rattle.engine.specs.Spent.{Spent, zeroWrite, clearProcess}
@@ -22,14 +23,14 @@ module _ {st st′ : List ℕ} {b b′ : ℕ} (n m : ℕ) {first : ℕ} where
       → Spent st b (tabulate m (λ i. zeroWrite (countCell n (messageLog i)))) st′ b′
   messages-cleared e p =
       rw (tabulate-cong m (λ i. zeroWrite (first + processCells * i)) (λ i. zeroWrite (countCell n (messageLog i)))
-      (λ i l. ap zeroWrite (rw e (message-cell n i)))) at p
+      (λ i l. ap zeroWrite (rw e (message-cell present n i)))) at p
 
   pub channels-cleared : first ≡ countCell n (channelLog 0)
       → Spent st b (tabulate m (λ i. zeroWrite (first + channelCells * i))) st′ b′
       → Spent st b (tabulate m (λ i. zeroWrite (countCell n (channelLog i)))) st′ b′
   channels-cleared e p =
       rw (tabulate-cong m (λ i. zeroWrite (first + channelCells * i)) (λ i. zeroWrite (countCell n (channelLog i)))
-      (λ i l. ap zeroWrite (rw e (channel-cell n i)))) at p
+      (λ i l. ap zeroWrite (rw e (channel-cell present n i)))) at p
 
 pub clear-length : (T : Topology) (n : ℕ) → length (clearWrites T n) ≡ T .processes + T .channels
 unfolding clearWrites
@@ -37,10 +38,10 @@ clear-length T n = length-append (tabulate (T .processes) _) (tabulate (T .chann
 
 -- how a run of two zeros writes what initialize does for a process
 pub two-zeros : (p at : ℕ) → at ≡ physicalCell 0 p → tabulate 2 (λ i. zeroWrite (at + 1 * i)) ≡ clearProcess p
-unfolding tabulate physicalCell countCell
+unfolding tabulate form.physicalCell form.countCell
 two-zeros p at e =
-    let first : at + 1 * 0 ≡ processRecord 0 p = omega arith in
-    let second : at + 1 * 1 ≡ processRecord 0 p + 1 = omega arith in
+    let first : at + 1 * 0 ≡ form.processRecord present 0 p = omega arith in
+    let second : at + 1 * 1 ≡ form.processRecord present 0 p + 1 = omega arith in
     ap₂ (λ (a b : ℕ). zeroWrite a ∷ zeroWrite b ∷ []) first second
 
 -- how many writes initialize needs

@@ -15,7 +15,7 @@ use Rattle.model.specs.declared.Receipt.{Receipt}
 use Rattle.model.specs.declared.Entry.{Entry}
 use Rattle.model.specs.declared.Entry.the-variants.{Message, Marker}
 use Rattle.model.specs.Notation.{upd}
-use Rattle.model.specs.Layout.{storeCells, slot, processRecord, channelRecord, Log, messageLog, channelLog}
+use Rattle.model.specs.Layout.{storeCells, slot, Log, messageLog, channelLog}
 use Rattle.model.specs.Layout.{messagePlaces, channelPlaces, messageEntryCells, channelEntryCells, countCell}
 use Rattle.model.specs.Layout.{entryCell, entryFor}
 use Rattle.model.specs.State.{GlobalState, Progress, LogCounts, raised, raisedAll, viewProgress, viewCounts}
@@ -25,6 +25,7 @@ use Rattle.model.specs.Receive.{anyFull}
 use Rattle.model.specs.Receive as receive
 use Rattle.model.specs.Write.{cellWrites, appendWrites, logWrites, logsWrites}
 use Rattle.model.specs.Step.{react}
+use Rattle.model.specs.Form as form
 use Rattle.model.proofs.laws.Tests.{true-is-not-false, or-left, or-true, or-false}
 use Rattle.model.proofs.laws.Functions.{upd-unchanged, seen-set}
 use Rattle.rules.specs.declared.reaction.Reaction.{Reaction}
@@ -76,7 +77,7 @@ both-cost false false m k i j c p r = refl
 
 -- the slot goes by the line's parity, so that a line that wraps has the right one
 pub same-cell : (k : ℕ) (log : Log) → countCell ((k + 1) % 2 ^ 32) log ≡ countCell (k + 1) log
-unfolding countCell processRecord channelRecord slot
+unfolding form.countCell form.processRecord form.channelRecord form.slot
 same-cell k (messageLog p) = omega arith
 same-cell k (channelLog c) = omega arith
 
@@ -102,7 +103,7 @@ module _ (x : Reaction) (a : Setting) where
     pub channel-place : x .«channel_log» ≡ true
         → entryCell channelEntryCells (countCell line (channelLog (a .channel))) (a .«in_channel») + channelEntryCells
         ≤ storeCells
-    unfolding countCell channelRecord slot
+    unfolding form.countCell form.channelRecord form.slot
     channel-place e = omega (arith, h .channel, below)
       where
         below : a .«in_channel» < channelPlaces
@@ -111,7 +112,7 @@ module _ (x : Reaction) (a : Setting) where
     pub message-place : x .«message_log» ≡ true
         → entryCell messageEntryCells (countCell line (messageLog (a .receiver))) (a .«in_messages») + messageEntryCells
         ≤ storeCells
-    unfolding countCell processRecord slot
+    unfolding form.countCell form.processRecord form.slot
     message-place e = omega (arith, h .receiver, below)
       where
         below : a .«in_messages» < messagePlaces

@@ -7,13 +7,14 @@ use Rattle.model.specs.Check as check
 use Rattle.model.specs.Word as word
 use Rattle.model.specs.Topology as topology
 use Rattle.model.specs.Channel as channel
-use Rattle.model.specs.Layout as layout
+use Rattle.model.specs.Form as form
 use Rattle.model.specs.State as state
 use Rattle.model.specs.Sound as sound
 use Rattle.model.specs.Write as write
 use Rattle.model.specs.Change as change
 use Rattle.model.specs.Receive as receive
 use Rattle.model.specs.Step as step
+use Rattle.model.specs.Restart as restart
 use Rattle.model.specs.Start as start
 use Rattle.model.specs.Outcome as outcome
 use Rattle.model.specs.Record as records
@@ -28,13 +29,12 @@ unfolding
     notation.upd notation.tabulate notation.concatBelow notation.orElse notation.firstBelow notation.allBelow
     notation.allTrue
     check.firstRefusal check.accepts
-    word.replay
+    word.replayBy
     topology.sender topology.receiver topology.hasProcess topology.hasChannel topology.sameEnds topology.channelRefusal
     topology.sizeRefusal topology.channelsRefusal topology.topologyRefusal
     channel.bodies channel.messages channel.noRoom channel.noRoomForMessage channel.noRoomForMarker channel.noEntry
-    layout.cell layout.slot layout.processRecord layout.channelRecord layout.physicalCell
-    layout.countCell layout.cellsFrom layout.entriesFrom layout.entriesBy layout.receiptsBy
-    layout.bodiesBy layout.logged
+    form.cell form.slot form.processRecord form.channelRecord form.physicalCell form.countCell form.cellsFrom
+    form.entriesFrom form.entriesBy form.receiptsBy form.bodiesBy form.logged
     state.noProgress state.noCounts state.raised state.raisedAll state.idleState
     sound.topologySound sound.channelSound sound.logSound sound.phaseSound sound.lineSound sound.channelSoundIn
     sound.sound
@@ -49,9 +49,10 @@ unfolding
     step.mayCheckpointLogically step.maySendMarker step.mayCommit step.reaction step.firstReaction step.markerOnClosed
     step.priorChecks step.roomChecks step.logChecks step.ownChecks step.stepChecks step.nextLine step.quietly step.react
     step.receivedOutcome step.receive step.afterPhysical step.effect step.resultOf step.step step.answer
-    start.startupOr start.initializeRefusal start.initializeWrites start.initialize start.storedLine start.countFits
-    start.countsFit start.recoverRefusal start.restoredBy start.restored start.recoveredWord start.recoveredChannel
-    start.recover start.lineOr start.recoverSaid start.stateOr
+    restart.startupOr restart.storedLine restart.initializeRefusal restart.countFits restart.countsFit
+    restart.recoverRefusal restart.restoredBy restart.restored restart.recoveredWord restart.recoveredChannel
+    restart.recover
+    start.initializeWrites start.initialize start.lineOr start.recoverSaid start.stateOr
     outcome.saidValues
     records.fieldsOf records.absent records.provided records.recordOf records.andThen records.nonzero records.readByte
     records.readBody records.readField records.stands records.goodMap records.fieldsAfter records.withRest

@@ -14,3 +14,4 @@ pub mod Looked
 pub mod Reached
 pub mod Trace
 pub mod OrderShows
+pub mod Numbers

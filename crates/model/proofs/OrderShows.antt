@@ -5,7 +5,7 @@ use mathlib.Core.List.{[], _∷_}
 use lib.Dec.{ltb}
 use borrow.Author.Tests.{ltb-true, ltb-false}
 use native.Mathlib.Omega.{arith}
-use Rattle.model.specs.Word.{receipt, replay}
+use Rattle.model.specs.Word.{receipt, replay, replayBy}
 use Rattle.model.specs.Topology.{channelLimit}
 use Rattle.model.specs.SpokeFirst.{OrderShows}
 use Rattle.model.proofs.laws.Tests.{Tested, holds, fails, test}
@@ -15,7 +15,7 @@ use Rattle.model.proofs.laws.WordLaws.{modulus, product-mod}
 twice : (word body c d : ℕ)
     → replay word (receipt c body ∷ receipt d body ∷ [])
     ≡ (961 * (31 * (31 * word + c) + body) + (31 * d + body)) % modulus
-unfolding replay
+unfolding replayBy
 twice word body c d =
     let x : ℕ = 31 * (31 * word + c) + body in
     let e : 31 * (31 * (x % modulus) + d) + body ≡ 961 * (x % modulus) + (31 * d + body) = omega arith in

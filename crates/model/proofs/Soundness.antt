@@ -21,8 +21,7 @@ use Rattle.model.specs.Notation.{upd, allBelow}
 use Rattle.model.specs.Topology.{receiver, hasProcess, hasChannel, topologyRefusal}
 use Rattle.model.specs.Channel.{channelRoom, bodies, messages, noRoom, noRoomForMessage, noRoomForMarker}
 use Rattle.model.specs.Phase.{isIdle, isNext}
-use Rattle.model.specs.Layout.{Log, messageLog, channelLog, places, entriesFrom, entriesBy, bodiesBy}
-use Rattle.model.specs.Layout.{logged}
+use Rattle.model.specs.Layout.{present, Log, messageLog, channelLog, places, entriesFrom}
 use Rattle.model.specs.State.{GlobalState, LogCounts, countOf, raised, raisedAll, idleState, noCounts, noProgress}
 use Rattle.model.specs.Sound.{channelSound, channelSoundIn, phaseSound, lineSound, lastLine, sound}
 use Rattle.model.specs.Change.{withRound, withWord, withTag, withChannel, withProgress, withCounts, inPhase}
@@ -33,8 +32,10 @@ use Rattle.model.specs.Step.{roomChecks, logChecks, quietly, reaction, f
 use Rattle.model.specs.Step.{afterPhysical}
 use Rattle.model.specs.Step.{effect, step, answer}
 use Rattle.model.specs.Write.{underBudget}
-use Rattle.model.specs.Start.{startupOr, initializeRefusal, initialize, storedLine, countFits, countsFit}
+use Rattle.model.specs.Start.{startupOr, initializeRefusal, initialize, storedLine, countsFit}
 use Rattle.model.specs.Start.{recoverRefusal, recoveredWord, recoveredChannel, recover}
+use Rattle.model.specs.Form as form
+use Rattle.model.specs.Restart as restart
 use Rattle.model.proofs.laws.Tests.{and-right, or-left, or-right, true-is-not-false, either}
 use Rattle.model.proofs.laws.Functions.{upd-all, upd-other}
 use Rattle.model.proofs.laws.Lists.{tabulate-length, all-at, or-else-none}
@@ -258,22 +259,22 @@ pub initialize-sound : (T : Topology) (store : List ℕ) → initialize T store 
 unfolding initialize startupOr
 initialize-sound T store e =
     let n : initializeRefusal T (length store) ≡ none = sym (initialize-refusal T store) ∙ e in
-    rw n (idle-sound T 0 (λ p. 0) (λ c. []) (admitted T (length store) n .0) (λ c l. omega arith))
+    rw n (idle-sound T 0 (λ p. 0) (λ c. []) (admitted present T (length store) n .0) (λ c l. omega arith))
 
 -- a channel filled from its log is as long as the log's count, which fits
 recovered-length : (T : Topology) (store : List ℕ) → countsFit T store ≡ true → RoomKept T (recoveredChannel T store)
-unfolding countsFit countFits recoveredChannel hasChannel messages logged bodiesBy entriesBy entriesFrom
+unfolding restart.countsFit restart.countFits restart.recoveredChannel hasChannel messages form.logged form.bodiesBy form.entriesBy entriesFrom
 recovered-length T store e c l =
     rw (lt-ltb c (T .channels) l, length-map, length-map, tabulate-length)
     (leb-true _ _ (all-at (T .channels) _ (and-right (allBelow (T .processes) _) _ e) c l))
 
 pub recover-sound : (T : Topology) (store : List ℕ) → recover T store .refusal ≡ none
     → sound (recover T store .state) ≡ true
-unfolding recover recoverRefusal startupOr
+unfolding restart.recover restart.recoverRefusal startupOr
 recover-sound T store e =
     let n : recoverRefusal T store ≡ none = sym (recover-refusal T store) ∙ e in
     let (first, fits) = or-else-none (initializeRefusal T (length store)) _ n in
     rw n
     (idle-sound T (storedLine store) (recoveredWord T store) (recoveredChannel T store)
-    (admitted T (length store) first .0)
+    (admitted present T (length store) first .0)
     (recovered-length T store (not-false (countsFit T store) (passed _ fits .0))))

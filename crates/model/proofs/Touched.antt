@@ -21,7 +21,7 @@ use Rattle.model.specs.declared.Step.the-variants.{LogicalCheckpoint, Se
 use Rattle.model.specs.Notation.{concatBelow, tabulate}
 use Rattle.model.specs.Topology.{receiver, topologyRefusal}
 use Rattle.model.specs.Channel.{receiptOf}
-use Rattle.model.specs.Layout.{storeCells, cell, slot, physicalCell, Log, messageLog, channelLog, places}
+use Rattle.model.specs.Layout.{present, storeCells, cell, slot, physicalCell, Log, messageLog, channelLog, places}
 use Rattle.model.specs.Layout.{countCell}
 use Rattle.model.specs.State.{GlobalState, LogCounts, countOf}
 use Rattle.model.specs.Write.{Write, writeAll, underBudget, clearWrites, physicalWrites, logWrites, logsWrites}
@@ -30,6 +30,7 @@ use Rattle.model.specs.Receive.{Reaction, logsOnly, reactionTo, anyFull}
 use Rattle.model.specs.Start.{startupOr, initializeRefusal, initialize, initializeWrites}
 use Rattle.model.specs.Step.{logChecks, nextLine, quietly, reaction, firstReaction, receive, effect, step, answer}
 use Rattle.model.specs.Extent.{InStore, Untouched}
+use Rattle.model.specs.Form as form
 use Rattle.model.proofs.laws.Tests.{either, or-left, or-right}
 use Rattle.model.proofs.laws.TopologyLaws.{Planned, receiver-planned}
 use Rattle.model.proofs.laws.SoundLaws.{sound-facts}
@@ -48,19 +49,19 @@ in-store [] h = tt
 in-store (w ∷ ws) h = (h .0, in-store ws (h .1))
 
 -- a slot is within the store
-slot-below : (n a : ℕ) → Within n a → a < storeCells
-unfolding slot
+slot-below : (n a : ℕ) → Within present n a → a < storeCells
+unfolding form.slot
 slot-below n a h = omega arith
 
 slot-writes : (n : ℕ) (ws : List Write) → InSlot n ws → Below ws
-slot-writes n ws h = each-map (λ w. Within n (w .cell)) (λ w. w .cell < storeCells) (λ w. slot-below n (w .cell)) ws h
+slot-writes n ws h = each-map (λ w. Within present n (w .cell)) (λ w. w .cell < storeCells) (λ w. slot-below n (w .cell)) ws h
 
 -- an accepted topology over some store that is long enough
 abbrev some-store : List ℕ
 some-store = replicate storeCells 0
 
-sized : (T : Topology) → topologyRefusal T ≡ none → Sized T some-store
-sized T e = sized-topology T some-store e (omega (arith, length-replicate {A = ℕ} storeCells 0))
+sized : (T : Topology) → topologyRefusal T ≡ none → Sized present T some-store
+sized T e = sized-topology present T some-store e (omega (arith, length-replicate {A = ℕ} storeCells 0))
 
 -- each log that an entry needs is its receiver's message log or its channel's log
 abbrev EachLog : (Log → Type 0) → List Log → Type 0
@@ -169,5 +170,5 @@ untouched =
         → initializeRefusal T (length store) ≡ o
         → cell (startupOr o s (writeAll store (initializeWrites T)) store .store) a ≡ cell store a
     started T store a l s none e =
-        beyond store (initializeWrites T) a l (initialize-below T (admitted T (length store) e .0))
+        beyond store (initializeWrites T) a l (initialize-below T (admitted present T (length store) e .0))
     started T store a l s (some r) e = refl

@@ -1,123 +1,57 @@
--- Document 01, "The store": where each thing stands. In brackets are the numbers that document 02, M-101, puts in the
--- place of its: "The board record has 130 cells, the half 2,656 and the store 5,313; wire records start at 2,080 in the
--- half."
-use Prim.Native.Nat.{ℕ, zero, suc, _+_, _*_, _%_}
-use mathlib.Core.List.{List, [], _∷_, map}
-use lib.ListN.{getD}
+-- The present form of the store, document 02's M-101, and each name of `Form` at it: "Each board log entry becomes body
+-- and wire, stored so, before the count. The board record has 130 cells, the half 2,656 and the store 5,313; wire
+-- records start at 2,080 in the half." That these are its numbers is `proofs/Numbers.antt`.
+use Prim.Native.Nat.{ℕ}
+use mathlib.Core.List.{List, [], _∷_}
 use Rattle.model.specs.declared.Receipt.{Receipt}
-use Rattle.model.specs.Notation.{tabulate}
-use Rattle.model.specs.Word.{receipt}
+use Rattle.model.specs.Word.{enter}
+use Rattle.model.specs.Form as form
+pub use Rattle.model.specs.Form.{Log, messageLog, channelLog}
+unfoldable pub use Rattle.model.specs.Form.{cell, lineCell, messagePlaces, channelPlaces, places, channelCells}
+unfoldable pub use Rattle.model.specs.Form.{channelEntryCells, entryCell, cellsFrom, entriesFrom, receiptIn}
+unfoldable pub use Rattle.model.specs.Form.{bodyIn}
 
--- "A lent slice of [5,313] cells of 32 bits; further cells are never touched."
-abbrev pub storeCells : ℕ
-storeCells = 5313
-
--- what a cell holds
-unfoldable pub cell : List ℕ → ℕ → ℕ
-cell store at = getD store at 0
-
--- "Cell 0 is k."
-abbrev pub lineCell : ℕ
-lineCell = 0
-
--- "The half for line n starts at 1 + [2,656] × (n mod 2)." A half is a slot.
-abbrev pub slotCells : ℕ
-slotCells = 2656
-
-unfoldable pub slot : ℕ → ℕ
-slot n = 1 + slotCells * (n % 2)
-
--- "In it board p's record starts at [130] × p: copy, log count," and 64 entries of two cells
-abbrev pub processCells : ℕ
-processCells = 130
-
-unfoldable pub processRecord : ℕ → ℕ → ℕ
-processRecord n p = slot n + processCells * p
-
--- "Wire w's starts at [2,080] + 9 × w: count, 8 bodies."
-abbrev pub channelsStart : ℕ
-channelsStart = 2080
-
-abbrev pub channelCells : ℕ
-channelCells = 9
-
-unfoldable pub channelRecord : ℕ → ℕ → ℕ
-channelRecord n c = slot n + channelsStart + channelCells * c
-
--- the cell of process p's physical checkpoint (copy) for line n
-unfoldable pub physicalCell : ℕ → ℕ → ℕ
-physicalCell n p = processRecord n p
-
--- A log: the message log (board log) of a process or the channel log (wire log) of a channel. Both have one shape: a
--- count, then the entries, each of as many cells as the log has for one.
-pub data Log : Type 0 where
-  messageLog : ℕ → Log
-  channelLog : ℕ → Log
-
--- "board log (64 places)", "wire log (8 places)"
-abbrev pub messagePlaces : ℕ
-messagePlaces = 64
-
-abbrev pub channelPlaces : ℕ
-channelPlaces = 8
-
-abbrev pub places : Log → ℕ
-places (messageLog p) = messagePlaces
-places (channelLog c) = channelPlaces
-
--- how many cells an entry has: "Each board log entry becomes body and wire"; a wire log's is a body, since its wire is
--- known
 abbrev pub messageEntryCells : ℕ
 messageEntryCells = 2
 
-abbrev pub channelEntryCells : ℕ
-channelEntryCells = 1
-
-abbrev pub entryCells : Log → ℕ
-entryCells (messageLog p) = messageEntryCells
-entryCells (channelLog c) = channelEntryCells
-
--- the cell of a log's count, for line n
-unfoldable pub countCell : ℕ → Log → ℕ
-countCell n (messageLog p) = processRecord n p + 1
-countCell n (channelLog c) = channelRecord n c
-
--- the first cell of the i-th entry of a log whose count stands in the cell `at`, with w cells for an entry
-abbrev pub entryCell : ℕ → ℕ → ℕ → ℕ
-entryCell w at i = at + 1 + w * i
-
--- what w cells hold, from the cell `at` on
-unfoldable pub cellsFrom : List ℕ → ℕ → ℕ → List ℕ
-cellsFrom store zero at = []
-cellsFrom store (suc w) at = cell store at ∷ cellsFrom store w (at + 1)
-
--- the first k entries of a log whose count stands in the cell `at`, each as what its w cells hold
-unfoldable pub entriesFrom : List ℕ → ℕ → ℕ → ℕ → List (List ℕ)
-entriesFrom store w at k = tabulate k (λ i. cellsFrom store w (entryCell w at i))
-
--- the first k entries of a log for line n
-unfoldable pub entriesBy : List ℕ → ℕ → Log → ℕ → List (List ℕ)
-entriesBy store n log k = entriesFrom store (entryCells log) (countCell n log) k
+abbrev pub present : form.Form
+present = record { messageCells = messageEntryCells; enter = enter }
 
 -- what the cells of an entry hold for a receipt: "body and wire, stored so"
 abbrev pub entryFor : Log → Receipt → List ℕ
 entryFor (messageLog p) r = r .body ∷ r .channel ∷ []
 entryFor (channelLog c) r = r .body ∷ []
 
--- what an entry says: in a message log a receipt, in a channel log a body
-abbrev pub receiptIn : List ℕ → Receipt
-receiptIn entry = receipt (getD entry 1 0) (getD entry 0 0)
+-- "A lent slice of [5,313] cells of 32 bits; further cells are never touched."
+abbrev pub storeCells : ℕ
+storeCells = form.storeCells present
 
-abbrev pub bodyIn : List ℕ → ℕ
-bodyIn entry = getD entry 0 0
+abbrev pub slotCells : ℕ
+slotCells = form.slotCells present
 
--- the first k receipts of process p's message log, and the first k bodies of channel c's log, for line n
-unfoldable pub receiptsBy : List ℕ → ℕ → ℕ → ℕ → List Receipt
-receiptsBy store n p k = map receiptIn (entriesBy store n (messageLog p) k)
+abbrev pub processCells : ℕ
+processCells = form.processCells present
 
-unfoldable pub bodiesBy : List ℕ → ℕ → ℕ → ℕ → List ℕ
-bodiesBy store n c k = map bodyIn (entriesBy store n (channelLog c) k)
+abbrev pub entryCells : Log → ℕ
+entryCells log = form.entryCells present log
 
--- the bodies that channel c's log for line n holds in the store: as many as its count there says
-unfoldable pub logged : List ℕ → ℕ → ℕ → List ℕ
-logged store n c = bodiesBy store n c (cell store (countCell n (channelLog c)))
+abbrev pub slot : ℕ → ℕ
+slot n = form.slot present n
+
+abbrev pub physicalCell : ℕ → ℕ → ℕ
+physicalCell n p = form.physicalCell present n p
+
+abbrev pub countCell : ℕ → Log → ℕ
+countCell n log = form.countCell present n log
+
+abbrev pub entriesBy : List ℕ → ℕ → Log → ℕ → List (List ℕ)
+entriesBy store n log k = form.entriesBy present store n log k
+
+abbrev pub receiptsBy : List ℕ → ℕ → ℕ → ℕ → List Receipt
+receiptsBy store n p k = form.receiptsBy present store n p k
+
+abbrev pub bodiesBy : List ℕ → ℕ → ℕ → ℕ → List ℕ
+bodiesBy store n c k = form.bodiesBy present store n c k
+
+abbrev pub logged : List ℕ → ℕ → ℕ → List ℕ
+logged store n c = form.logged present store n c

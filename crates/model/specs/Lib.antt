@@ -7,6 +7,7 @@ pub mod Word
 pub mod Topology
 pub mod Channel
 pub mod Phase
+pub mod Form
 pub mod Layout
 pub mod State
 pub mod Sound
@@ -14,6 +15,7 @@ pub mod Write
 pub mod Change
 pub mod Receive
 pub mod Step
+pub mod Restart
 pub mod Start
 pub mod Record
 pub mod Program

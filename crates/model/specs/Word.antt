@@ -11,7 +11,10 @@ receipt c body = record { channel = c; body = body }
 abbrev pub enter : ℕ → Receipt → ℕ
 enter word r = (31 * (31 * word + r .channel) + r .body) % 4294967296
 
--- what the receipts, in order, make of a word
-unfoldable pub replay : ℕ → List Receipt → ℕ
-replay word [] = word
-replay word (r ∷ rs) = replay (enter word r) rs
+-- what the receipts, in order, make of a word by a rule, and by this one
+unfoldable pub replayBy : (ℕ → Receipt → ℕ) → ℕ → List Receipt → ℕ
+replayBy rule word [] = word
+replayBy rule word (r ∷ rs) = replayBy rule (rule word r) rs
+
+abbrev pub replay : ℕ → List Receipt → ℕ
+replay word rs = replayBy enter word rs

@@ -17,12 +17,13 @@ use Rattle.model.specs.Notation.{tabulate, allBelow}
 use Rattle.model.specs.Check.{Check, _⇒_, firstRefusal}
 use Rattle.model.specs.Topology.{processLimit, channelLimit, hasProcess, hasChannel}
 use Rattle.model.specs.Channel.{entries, messages}
-use Rattle.model.specs.Layout.{cell, processCells, channelCells, Log, messageLog, channelLog, places}
+use Rattle.model.specs.Layout.{present, cell, processCells, channelCells, Log, messageLog, channelLog, places}
 use Rattle.model.specs.Layout.{messagePlaces, channelPlaces, entryCells, countCell, logged}
 use Rattle.model.specs.State.{GlobalState, view, idleState, blankState, emptyChannel}
 use Rattle.model.specs.Outcome.{startRefusal}
-use Rattle.model.specs.Start.{startupOr, initializeRefusal, recoverRefusal, storedLine, countFits, countsFit, restored}
+use Rattle.model.specs.Start.{startupOr, initializeRefusal, recoverRefusal, storedLine, countsFit, restored}
 use Rattle.model.specs.Start.{recoveredWord, recoveredChannel}
+use Rattle.model.specs.Restart as restart
 use Rattle.model.proofs.laws.Tests.{and-left, and-right}
 use Rattle.model.proofs.laws.Functions.{seen-replicate, filledBelow}
 use Rattle.model.proofs.laws.Lists.{all-at, or-else-none}
@@ -70,11 +71,11 @@ module _ (T : Topology) (st : List ℕ) {first : ℕ} (at : first ≡ countCell 
   channelsFit = within st (T .channels) (λ c. countCell (storedLine st) (channelLog c)) channelPlaces
 
   counts-from : countsFit T st ≡ (fit && channelsFit)
-  unfolding countsFit countFits
+  unfolding restart.countsFit restart.countFits
   counts-from =
       rw tested
       (ap (λ (f : ℕ → ℕ). within st (T .processes) f messagePlaces && channelsFit)
-      (fun-ext (λ p. sym (rw at (message-cell (storedLine st) p)))))
+      (fun-ext (λ p. sym (rw at (message-cell present (storedLine st) p)))))
 
   pub messages-over : fit ≡ false → false ≡ countsFit T st
   messages-over e = sym (counts-from ∙ rw e)
@@ -87,16 +88,16 @@ module _ (T : Topology) (st : List ℕ) {first : ℕ} (at : first ≡ countCell 
       (counts-from
       ∙ rw e
       (ap (λ (f : ℕ → ℕ). within st (T .channels) f channelPlaces)
-      (fun-ext (λ c. sym (rw where-first (channel-cell (storedLine st) c))))))
+      (fun-ext (λ c. sym (rw where-first (channel-cell present (storedLine st) c))))))
 
 -- What a store that is not refused has: its cells, and every log of its line within its places.
 pub record Readable (T : Topology) (st : List ℕ) : Type 0 where
-  pub sized : Sized T st
+  pub sized : Sized present T st
   pub fits : (log : Log) → Planned T log → cell st (countCell (storedLine st) log) ≤ places log
 
 pub readable : (T : Topology) (st : List ℕ) → recoverRefusal T st ≡ none → Readable T st
-unfolding recoverRefusal countsFit countFits
-readable T st e = record { sized = sized-start T st (both .0); fits = fits }
+unfolding restart.recoverRefusal restart.countsFit restart.countFits
+readable T st e = record { sized = sized-start present T st (both .0); fits = fits }
   where
     check : List Check
     check = (not (countsFit T st) ⇒ 16) ∷ []
@@ -118,7 +119,7 @@ last-in-store {T} {st} r log planned =
     let k : ℕ = storedLine st in
     let count : ℕ = cell st (countCell k log) in
     let a : ℕ = countCell k log + entryCells log * count in
-    let upto : Upto k log count a = omega arith in
+    let upto : Upto present k log count a = omega arith in
     in-store (r .sized) k a
     (log-within (r .sized) k log a planned (upto-more k log count (places log) a (r .fits log planned) upto))
 
@@ -130,9 +131,9 @@ abbrev pub channelOf : List ℕ → ℕ → List Entry
 channelOf st c = messages false (logged st (storedLine st) c)
 
 pub words-below : (T : Topology) (st : List ℕ) → filledBelow (T .processes) (wordOf st) 0 ≡ recoveredWord T st
-unfolding recoveredWord hasProcess
+unfolding restart.recoveredWord hasProcess
 words-below T st = refl
 
 pub channels-below : (T : Topology) (st : List ℕ) → filledBelow (T .channels) (channelOf st) [] ≡ recoveredChannel T st
-unfolding recoveredChannel hasChannel
+unfolding restart.recoveredChannel hasChannel
 channels-below T st = refl

@@ -10,7 +10,7 @@ use lib.Seq.{take-length}
 use borrow.Author.Tests.{eq-eqb, ne-eqb}
 use native.Mathlib.Omega.{arith}
 use Rattle.model.specs.declared.Receipt.{Receipt}
-use Rattle.model.specs.Word.{receipt, enter, replay}
+use Rattle.model.specs.Word.{receipt, enter, replay, replayBy}
 use Rattle.model.specs.History.{Event, Direction, sent, received, isOn, sameDirection, bodiesOn, receiptsOf}
 use Rattle.model.specs.History.{placeOfSend}
 use Rattle.model.proofs.laws.Tests.{Tested, holds, fails, test}
@@ -50,13 +50,13 @@ receipts-append (x ∷ xs) ys =
     (receipts-append xs ys)
 
 pub replay-append : (w : ℕ) (xs ys : List Receipt) → replay w (xs ++ ys) ≡ replay (replay w xs) ys
-unfolding replay
+unfolding replayBy
 replay-append w [] ys = refl
 replay-append w (x ∷ xs) ys = replay-append (enter w x) xs ys
 
 -- one more receipt after a log is one more entered
 pub replay-snoc : (w : ℕ) (xs : List Receipt) (r : Receipt) → replay w (xs ++ (r ∷ [])) ≡ enter (replay w xs) r
-unfolding replay
+unfolding replayBy
 replay-snoc w xs r = replay-append w xs (r ∷ [])
 
 -- the events that a step adds

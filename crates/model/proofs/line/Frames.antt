@@ -5,11 +5,12 @@ use mathlib.Core.Path.{_≡_, refl, sym, subst, _∙_}
 use mathlib.Core.List.{List, map}
 use lib.ListN.{length, take}
 use lib.Seq.{take-length}
-use Rattle.model.specs.Layout.{cell, lineCell, messageLog, channelLog, countCell, bodyIn, bodiesBy, logged}
+use Rattle.model.specs.Layout.{present, cell, lineCell, messageLog, channelLog, countCell, bodyIn}
 use Rattle.model.specs.State.{GlobalState}
 use Rattle.model.specs.Write.{Write, writeAll}
-use Rattle.model.specs.Start.{restored}
 use Rattle.model.specs.History.{History}
+use Rattle.model.specs.Form as form
+use Rattle.model.specs.Restart as restart
 use Rattle.model.proofs.store.Sizes.{Sized, sized-after}
 use Rattle.model.proofs.store.Slots.{SameLog, SameProcess, InSlot, restored-same, spared-log, spared-process}
 use Rattle.model.proofs.store.Slots.{spared-line}
@@ -23,17 +24,17 @@ module _ {st st′ : List ℕ} (n p k : ℕ) where
   slot-same e = λ i. record { word = restored-same n p k e i; count = e .log .count i }
 
   pub held-same : SameLog n (channelLog p) k st st′ → heldBy st′ n k p ≡ heldBy st n k p
-  unfolding heldBy bodiesBy
+  unfolding heldBy form.bodiesBy
   held-same e = λ i. record { bodies = map bodyIn (e .entries i); count = e .count i }
 
 -- reading with the store's own count is reading with that many
 module _ (st : List ℕ) (n p k : ℕ) where
   pub slot-by : k ≡ cell st (countCell n (messageLog p)) → slotOf st n p ≡ slotBy st n k p
-  unfolding slotOf slotBy restored
+  unfolding slotOf slotBy restart.restored
   slot-by e = rw e
 
   pub held-by : k ≡ cell st (countCell n (channelLog p)) → heldOf st n p ≡ heldBy st n k p
-  unfolding heldOf heldBy logged
+  unfolding heldOf heldBy form.logged
   held-by e = rw e
 
 module _ {st st′ : List ℕ} (n p : ℕ) where
@@ -49,7 +50,7 @@ module _ {st st′ : List ℕ} (n p : ℕ) where
 
 -- the finished line is as it was
 pub record Spared (s : GlobalState) (st st′ : List ℕ) : Type 0 where
-  pub sized : Sized (s .topology) st′
+  pub sized : Sized present (s .topology) st′
   pub line : cell st′ lineCell ≡ cell st lineCell
   pub slots : (p : ℕ) → p < s .topology .processes → slotOf st′ (s .round .line) p ≡ slotOf st (s .round .line) p
   pub helds : (c : ℕ) → c < s .topology .channels → heldOf st′ (s .round .line) c ≡ heldOf st (s .round .line) c

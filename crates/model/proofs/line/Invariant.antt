@@ -13,7 +13,7 @@ use Rattle.model.specs.declared.Phase.the-variants.{Idle, Physical, Logi
 use Rattle.model.specs.declared.Step.{Step}
 use Rattle.model.specs.Topology.{sender, receiver}
 use Rattle.model.specs.Channel.{bodies, messages}
-use Rattle.model.specs.Layout.{cell, lineCell, messagePlaces, channelPlaces}
+use Rattle.model.specs.Layout.{present, cell, lineCell, messagePlaces, channelPlaces}
 use Rattle.model.specs.State.{GlobalState}
 use Rattle.model.specs.Write.{Result, writeAll}
 use Rattle.model.specs.Step.{effect}
@@ -92,7 +92,7 @@ pub record ChannelHolds (t : Bool) (phase : Phase) (v : Channel) : Type 0 where
 
 -- All of it, by the state's own topology and line.
 pub record Inv (s : GlobalState) (st : List ℕ) (h : History) : Type 0 where
-  pub sized : Sized (s .topology) st
+  pub sized : Sized present (s .topology) st
   pub stored : cell st lineCell ≡ s .round .line
   pub tag : Bool
   pub processes : (p : ℕ) → p < s .topology .processes → ProcessHolds tag (s .round .phase) p (processAt s st h p)

@@ -7,11 +7,12 @@ use lib.ListN.{length, take}
 use native.Mathlib.Omega.{arith}
 use Rattle.model.specs.declared.Receipt.{Receipt}
 use Rattle.model.specs.Layout.{cell, physicalCell, Log, messageLog, channelLog, messagePlaces, channelPlaces}
-use Rattle.model.specs.Layout.{places, entriesBy, entryFor, receiptIn, bodyIn, receiptsBy, bodiesBy}
+use Rattle.model.specs.Layout.{present, places, entriesBy, entryFor, receiptIn, bodyIn, receiptsBy}
 use Rattle.model.specs.State.{GlobalState, countOf}
 use Rattle.model.specs.Write.{Write, writeAll, logWrites}
-use Rattle.model.specs.Start.{restoredBy}
 use Rattle.model.specs.History.{History}
+use Rattle.model.specs.Form as form
+use Rattle.model.specs.Restart as restart
 use Rattle.model.proofs.laws.Functions.{Indices, same, other, indices}
 use Rattle.model.proofs.laws.TopologyLaws.{Planned}
 use Rattle.model.proofs.laws.SoundLaws.{Fits}
@@ -99,7 +100,7 @@ module _ (s : GlobalState) (st : List ℕ) (h : History) (i : Inv s st h) (fits 
       (λ c l. held (logs log (channelLog c)) c l refl)
     where
       part : IntoLog n log (take x writes)
-      part = each-take (λ w. Of n log (w .cell)) x writes into
+      part = each-take (λ w. Of present n log (w .cell)) x writes into
 
       behind : SameLog n log (countOf (s .counts) log) st (writeAll st (take x writes))
       behind = log-lost (s .topology) st (i .sized) n log (countOf (s .counts) log) r planned room x k
@@ -130,7 +131,7 @@ module _ (s : GlobalState) (st : List ℕ) (h : History) (i : Inv s st h) (r : R
       (s .round .line + 1)
       (s .counts .messages q + 1) q
       ≡ loggedSlot r (processAt s st h q)
-  unfolding slotBy restoredBy receiptsBy
+  unfolding slotBy restart.restoredBy form.receiptsBy
   slot-logged q l room =
       let n : ℕ = s .round .line + 1 in
       let k : ℕ = s .counts .messages q in
@@ -149,7 +150,7 @@ module _ (s : GlobalState) (st : List ℕ) (h : History) (i : Inv s st h) (r : R
       (s .round .line + 1)
       (s .counts .channels c + 1) c
       ≡ loggedHeld (r .body) (channelAt s st h c)
-  unfolding heldBy bodiesBy
+  unfolding heldBy form.bodiesBy
   held-logged c l room =
       let n : ℕ = s .round .line + 1 in
       let k : ℕ = s .counts .channels c in

@@ -11,16 +11,17 @@ use Rattle.model.specs.declared.Phase.the-variants.{Physical, Logical}
 use Rattle.model.specs.declared.Entry.{Entry}
 use Rattle.model.specs.declared.Step.the-variants.{PhysicalCheckpoint}
 use Rattle.model.specs.Notation.{tabulate}
-use Rattle.model.specs.Word.{replay}
+use Rattle.model.specs.Word.{replayBy}
 use Rattle.model.specs.Channel.{bodies, messages}
-use Rattle.model.specs.Layout.{messageLog, channelLog, entriesFrom, entriesBy, receiptsBy, bodiesBy}
+use Rattle.model.specs.Layout.{messageLog, channelLog, entriesFrom}
 use Rattle.model.specs.State.{GlobalState, noProgress}
 use Rattle.model.specs.Change.{inPhase, withRound, withProgress}
 use Rattle.model.specs.Outcome.{accepted}
 use Rattle.model.specs.Write.{Write, writeAll, physicalWrites}
-use Rattle.model.specs.Start.{restoredBy}
 use Rattle.model.specs.Step.{effect, nextLine, afterPhysical}
 use Rattle.model.specs.History.{History, Direction, sent, received, onStep, onAccepted}
+use Rattle.model.specs.Form as form
+use Rattle.model.specs.Restart as restart
 use Rattle.model.proofs.laws.Tests.{true-is-not-false}
 use Rattle.model.proofs.laws.Functions.{Indices, same, other, indices}
 use Rattle.model.proofs.laws.Passing.{MayCheckpointPhysically}
@@ -83,7 +84,7 @@ module _ (s : GlobalState) (st : List ℕ) (h : History) (p : ℕ) (ends : EndsP
 
   -- this process and those before it are saved as they stand
   own-saved : slotBy after n (s .counts .messages p) p .word ≡ s .word p
-  unfolding slotBy restoredBy receiptsBy entriesBy entriesFrom tabulate replay
+  unfolding slotBy restart.restoredBy form.receiptsBy form.entriesBy entriesFrom tabulate replayBy
   own-saved =
       rw (process-in i phase p (may .planned) .round .waiting (omega arith))
       (physical-written (s .topology) st (i .sized) n p (s .word p) (may .planned))
@@ -148,7 +149,7 @@ module _ (s : GlobalState) (st : List ℕ) (h : History) (p : ℕ) (ends : EndsP
   logical = inPhase Logical (withProgress noProgress s)
 
   nothing-logged : (c : ℕ) → c < s .topology .channels → heldBy st n (s .counts .channels c) c .bodies ≡ []
-  unfolding heldBy bodiesBy entriesBy entriesFrom tabulate
+  unfolding heldBy form.bodiesBy form.entriesBy entriesFrom tabulate
   nothing-logged c l = rw (channel-in i phase c l .round .empty)
 
   last : s .topology .processes ≤ p + 1 → Inv logical after h

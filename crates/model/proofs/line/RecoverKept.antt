@@ -13,19 +13,21 @@ use native.Mathlib.Nat.{le-refl}
 use Rattle.model.specs.declared.Topology.{Topology}
 use Rattle.model.specs.Notation.{tabulate, orElse}
 use Rattle.model.specs.Check.{firstRefusal}
-use Rattle.model.specs.Word.{replay}
+use Rattle.model.specs.Word.{replayBy}
 use Rattle.model.specs.Topology.{sender, receiver, hasProcess, hasChannel, topologyRefusal}
 use Rattle.model.specs.Channel.{bodies, messages, markerless}
-use Rattle.model.specs.Layout.{storeCells, messageLog, channelLog, entriesFrom, entriesBy, receiptsBy}
-use Rattle.model.specs.Layout.{bodiesBy, logged}
+use Rattle.model.specs.Layout.{present, storeCells, messageLog, channelLog, entriesFrom}
+use Rattle.model.specs.Layout.{logged}
 use Rattle.model.specs.State.{GlobalState, idleState}
 use Rattle.model.specs.Write.{writeAll}
 use Rattle.model.specs.Start.{Startup, startupOr, initialize, initializeRefusal, initializeWrites, storedLine}
-use Rattle.model.specs.Start.{countFits, countsFit, recover, recoverRefusal, restoredBy, restored, recoveredWord}
+use Rattle.model.specs.Start.{countsFit, recover, recoverRefusal, recoveredWord}
 use Rattle.model.specs.Start.{recoveredChannel}
 use Rattle.model.specs.History.{Event, History, newHistory, sent, received, bodiesOn, receiptsOf}
 use Rattle.model.specs.History.{onRecover}
 use Rattle.model.specs.Claim.{Recovered}
+use Rattle.model.specs.Form as form
+use Rattle.model.specs.Restart as restart
 use Rattle.model.proofs.laws.Tests.{and-both}
 use Rattle.model.proofs.laws.Lists.{all-of}
 use Rattle.model.proofs.laws.Calls.{initialize-refusal}
@@ -53,29 +55,29 @@ module _ (s : GlobalState) (st : List ℕ) (h : History) (good : topologyRefusal
     line-is = i .stored
 
     counts-fit : countsFit T st ≡ true
-    unfolding countsFit countFits slotOf heldOf
+    unfolding restart.countsFit restart.countFits slotOf heldOf
     counts-fit =
         rw line-is
         (and-both _ _ (all-of (T .processes) _ (λ p l. le-leb _ _ (i .processes p l .fits)))
         (all-of (T .channels) _ (λ c l. le-leb _ _ (i .channels c l .fits))))
 
     not-refused : recoverRefusal T st ≡ none
-    unfolding recoverRefusal initializeRefusal orElse firstRefusal
+    unfolding restart.recoverRefusal restart.initializeRefusal orElse firstRefusal
     not-refused = rw (good, le-ltb (length st) storeCells (i .sized .cells), counts-fit)
 
     abbrev recovered : GlobalState
     recovered = idleState T k (recoveredWord T st) (recoveredChannel T st)
 
     recover-is : recover T st ≡ record { refusal = none; state = recovered; store = st }
-    unfolding recover startupOr
+    unfolding restart.recover startupOr
     recover-is = rw (not-refused, line-is)
 
     word-is : (p : ℕ) → p < T .processes → recoveredWord T st p ≡ wordOf (shortened h p)
-    unfolding recoveredWord hasProcess slotOf bookOf
+    unfolding restart.recoveredWord hasProcess slotOf bookOf
     word-is p l = rw (lt-ltb p (T .processes) l, line-is) (i .processes p l .finished)
 
     channel-is : (c : ℕ) → c < T .channels → recoveredChannel T st c ≡ messages false (logged st k c)
-    unfolding recoveredChannel hasChannel
+    unfolding restart.recoveredChannel hasChannel
     channel-is c l = rw (lt-ltb c (T .channels) l, line-is)
 
     bodies-are : (c : ℕ) → c < T .channels → bodies (recoveredChannel T st c) ≡ logged st k c
@@ -146,7 +148,7 @@ module _ (T : Topology) (store : List ℕ) (accepted : initialize T store .refus
   no-refusal = sym (initialize-refusal T store) ∙ accepted
 
   pub topology-accepted : topologyRefusal T ≡ none
-  topology-accepted = admitted T (length store) no-refusal .0
+  topology-accepted = admitted present T (length store) no-refusal .0
 
   abbrev after : List ℕ
   after = writeAll store (initializeWrites T)
@@ -166,22 +168,22 @@ module _ (T : Topology) (store : List ℕ) (accepted : initialize T store .refus
 
   -- line 0, with nothing sent or received
   blank : Initialized T after
-  blank = initialized T store (sized-start T store no-refusal)
+  blank = initialized T store (sized-start present T store no-refusal)
 
   blank-word : (p : ℕ) → p < T .processes → slotOf after 0 p .word ≡ 0
-  unfolding slotOf restored restoredBy receiptsBy entriesBy entriesFrom tabulate replay
+  unfolding slotOf restart.restored restart.restoredBy form.receiptsBy form.entriesBy entriesFrom tabulate replayBy
   blank-word p l = rw (blank .counts (messageLog p) l) (blank .physical p l)
 
   blank-log : (c : ℕ) → c < T .channels → heldOf after 0 c .bodies ≡ []
-  unfolding heldOf logged bodiesBy entriesBy entriesFrom tabulate
+  unfolding heldOf form.logged form.bodiesBy form.entriesBy entriesFrom tabulate
   blank-log c l = rw (blank .counts (channelLog c) l)
 
   pub initialize-holds : Inv (initialize T store .state) (initialize T store .store) newHistory
-  unfolding idleState newHistory bookOf seenOf slotOf heldOf wordOf receiptsOf replay bodiesOn bodies messages
+  unfolding idleState newHistory bookOf seenOf slotOf heldOf wordOf receiptsOf replayBy bodiesOn bodies messages
   initialize-holds =
       subst (λ (r : Startup). Inv (r .state) (r .store) newHistory) (sym initialize-is)
       (record {
-        sized = sized-after (sized-start T store no-refusal) (initializeWrites T);
+        sized = sized-after (sized-start present T store no-refusal) (initializeWrites T);
         stored = blank .line;
         tag = false;
         processes = λ p l.

@@ -6,7 +6,7 @@ use mathlib.Core.List.{List, [], _∷_, _++_}
 use lib.ListN.{length, take, length-append}
 use lib.Seq.{take-append-le}
 use native.Mathlib.Omega.{arith}
-use native.Mathlib.Nat.{mul-suc, mul-le-mul-left}
+use native.Mathlib.Nat.{mul-suc, mul-le-mul-left, lt-of-mul-lt-mul-left}
 use Rattle.model.specs.Layout.{cell, entryCell, cellsFrom, entriesFrom}
 use Rattle.model.specs.Write.{Write, write, writeAll, cellWrites, appendWrites}
 use Rattle.model.proofs.laws.Lists.{tabulate-cong, tabulate-more}
@@ -22,6 +22,13 @@ entry-ends w i k l =
 pub record Between (lo hi a : ℕ) : Type 0 where
   pub from : lo ≤ a
   pub to : a < hi
+
+-- a cell is in one entry alone
+pub one-entry : (w i j a : ℕ) → Between (w * i) (w * i + w) a → Between (w * j) (w * j + w) a → i ≡ j
+one-entry w i j a b d =
+    let low : i < suc j = lt-of-mul-lt-mul-left w (omega (arith, mul-suc w j, b .from, d .to)) in
+    let high : j < suc i = lt-of-mul-lt-mul-left w (omega (arith, mul-suc w i, d .from, b .to)) in
+    omega (arith, low, high)
 
 -- cells that are the same in two stores hold the same
 cells-same : (st st′ : List ℕ) (w at : ℕ) → ((a : ℕ) → Between at (at + w) a → cell st′ a ≡ cell st a)

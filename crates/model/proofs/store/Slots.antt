@@ -8,10 +8,12 @@ use native.Mathlib.Omega.{arith}
 use Rattle.model.specs.declared.Topology.{Topology}
 use Rattle.model.specs.declared.Receipt.{Receipt}
 use Rattle.model.specs.Layout.{cell, lineCell, physicalCell, Log, messageLog, channelLog, places, entryCells}
-use Rattle.model.specs.Layout.{countCell, entryCell, entriesFrom, entriesBy, entryFor, receiptsBy}
+use Rattle.model.specs.Layout.{present, countCell, entryCell, entriesFrom, entriesBy, entryFor}
 use Rattle.model.specs.Write.{Write, writeAll, clearWrites, physicalWrites, cellWrites, appendWrites, logWrites}
 use Rattle.model.specs.Write.{commitWrites}
 use Rattle.model.specs.Start.{initializeWrites, restoredBy}
+use Rattle.model.specs.Form as form
+use Rattle.model.specs.Restart as restart
 use Rattle.model.proofs.laws.TopologyLaws.{Planned}
 use Rattle.model.proofs.store.Writes.{Each, each-take, each-append, each-map, written, kept, zeroInto, zeroed}
 use Rattle.model.proofs.store.Entries.{entry-ends, Between, entries-same, cells-into, append-counts, appends}
@@ -34,13 +36,13 @@ pub record SameProcess (n p k : ℕ) (st st′ : List ℕ) : Type 0 where
 
 pub restored-same : (n p k : ℕ) {st st′ : List ℕ} → SameProcess n p k st st′
     → restoredBy st′ n p k ≡ restoredBy st n p k
-unfolding restoredBy receiptsBy
+unfolding restart.restoredBy form.receiptsBy
 restored-same n p k e = rw (e .physical, e .log .entries)
 
 -- where the cells that are read of a log with k entries are kept, the log is the same
-pub kept-log : (st st′ : List ℕ) (n : ℕ) (log : Log) (k : ℕ) → ((a : ℕ) → Upto n log k a → cell st′ a ≡ cell st a)
+pub kept-log : (st st′ : List ℕ) (n : ℕ) (log : Log) (k : ℕ) → ((a : ℕ) → Upto present n log k a → cell st′ a ≡ cell st a)
     → SameLog n log k st st′
-unfolding entriesBy
+unfolding form.entriesBy
 kept-log st st′ n log k h =
     record {
       count = h (countCell n log) (record { from = omega arith; to = omega arith });
@@ -51,11 +53,11 @@ kept-log st st′ n log k h =
 
 -- all the writes go into the slot for line n
 abbrev pub InSlot : ℕ → List Write → Type 0
-InSlot n ws = Each (λ w. Within n (w .cell)) ws
+InSlot n ws = Each (λ w. Within present n (w .cell)) ws
 
 -- all the writes go into the cells of one log for line n
 abbrev pub IntoLog : ℕ → Log → List Write → Type 0
-IntoLog n log ws = Each (λ w. Of n log (w .cell)) ws
+IntoLog n log ws = Each (λ w. Of present n log (w .cell)) ws
 
 -- an entry has its log's number of cells
 entry-length : (log : Log) (r : Receipt) → length (entryFor log r) ≡ entryCells log
@@ -68,11 +70,11 @@ unfolding logWrites appendWrites
 log-into n log count r l =
     let entry : List ℕ = entryFor log r in
     let first : ℕ = entryCell (length entry) (countCell n log) count in
-    let hi : ℕ = placeAt n log (places log) in
+    let hi : ℕ = placeAt present n log (places log) in
     let end : first + length entry ≤ hi = rw (entry-length log r)
     (omega (arith, entry-ends (entryCells log) count (places log) l)) in
-    each-append (λ w. Of n log (w .cell)) (cellWrites first entry) _
-    (each-map (λ w. Between first hi (w .cell)) (λ w. Of n log (w .cell))
+    each-append (λ w. Of present n log (w .cell)) (cellWrites first entry) _
+    (each-map (λ w. Between first hi (w .cell)) (λ w. Of present n log (w .cell))
     (λ w b. record { from = omega (arith, b .from); to = b .to }) (cellWrites first entry)
     (cells-into first hi first entry (omega arith) end))
     (omega arith, tt)
@@ -83,9 +85,9 @@ pub record Initialized (T : Topology) (st : List ℕ) : Type 0 where
   pub physical : (p : ℕ) → p < T .processes → cell st (physicalCell 0 p) ≡ 0
   pub counts : (log : Log) → Planned T log → cell st (countCell 0 log) ≡ 0
 
-module _ (T : Topology) (st : List ℕ) (sized : Sized T st) where
+module _ (T : Topology) (st : List ℕ) (sized : Sized present T st) where
   -- a slot that is kept, read with any counts within the places
-  module _ (n : ℕ) (st′ : List ℕ) (h : (a : ℕ) → Within n a → cell st′ a ≡ cell st a) where
+  module _ (n : ℕ) (st′ : List ℕ) (h : (a : ℕ) → Within present n a → cell st′ a ≡ cell st a) where
     slot-log : (log : Log) → Planned T log → (k : ℕ) → k ≤ places log → SameLog n log k st st′
     slot-log log planned k fits =
         kept-log st st′ n log k
@@ -97,7 +99,7 @@ module _ (T : Topology) (st : List ℕ) (sized : Sized T st) where
 
   -- each step's writes but commit's go into one slot
   pub clear-in : (n : ℕ) → InSlot n (clearWrites T n)
-  clear-in n = each-clear T (λ w. Within n (w .cell)) n (count-within sized n)
+  clear-in n = each-clear T (λ w. Within present n (w .cell)) n (count-within sized n)
 
   pub physical-in : (n p word : ℕ) → p < T .processes → InSlot n (physicalWrites n p word)
   unfolding physicalWrites
@@ -105,26 +107,26 @@ module _ (T : Topology) (st : List ℕ) (sized : Sized T st) where
 
   pub log-in : (n : ℕ) (log : Log) → Planned T log → (ws : List Write) → IntoLog n log ws → InSlot n ws
   log-in n log planned ws into =
-      each-map (λ w. Of n log (w .cell)) (λ w. Within n (w .cell))
+      each-map (λ w. Of present n log (w .cell)) (λ w. Within present n (w .cell))
       (λ w own. log-within sized n log (w .cell) planned own) ws
       into
 
   -- the finished slot and the line cell are not touched by writes into the next line's slot, however many are made
   module _ (k : ℕ) (ws : List Write) (into : InSlot (k + 1) ws) (b : ℕ) where
-    spared : (a : ℕ) → (Within (k + 1) a → ⊥) → cell (writeAll st (take b ws)) a ≡ cell st a
+    spared : (a : ℕ) → (Within present (k + 1) a → ⊥) → cell (writeAll st (take b ws)) a ≡ cell st a
     spared a outside =
         kept st (take b ws) a
-        (each-map (λ w. Within (k + 1) (w .cell)) (λ w. a ≡ w .cell → ⊥) (λ w within e. outside (rw e within))
+        (each-map (λ w. Within present (k + 1) (w .cell)) (λ w. a ≡ w .cell → ⊥) (λ w within e. outside (rw e within))
         (take b ws)
-        (each-take (λ w. Within (k + 1) (w .cell)) b ws into))
+        (each-take (λ w. Within present (k + 1) (w .cell)) b ws into))
 
     pub spared-log : (log : Log) → Planned T log → (j : ℕ) → j ≤ places log
         → SameLog k log j st (writeAll st (take b ws))
-    spared-log = slot-log k (writeAll st (take b ws)) (λ a within. spared a (other-within k a within))
+    spared-log = slot-log k (writeAll st (take b ws)) (λ a within. spared a (other-within present k a within))
 
     pub spared-process : (p : ℕ) → p < T .processes → (j : ℕ) → j ≤ places (messageLog p)
         → SameProcess k p j st (writeAll st (take b ws))
-    spared-process = slot-process k (writeAll st (take b ws)) (λ a within. spared a (other-within k a within))
+    spared-process = slot-process k (writeAll st (take b ws)) (λ a within. spared a (other-within present k a within))
 
     pub spared-line : cell (writeAll st (take b ws)) lineCell ≡ cell st lineCell
     spared-line = spared lineCell (line-outside (k + 1))
@@ -160,16 +162,16 @@ module _ (T : Topology) (st : List ℕ) (sized : Sized T st) where
     physical-other q m o k fits =
         record {
           physical =
-              kept st (physicalWrites n p word) (physicalCell n q) (λ e. o (one-physical n p q (sym e)), tt);
+              kept st (physicalWrites n p word) (physicalCell n q) (λ e. o (one-physical present n p q (sym e)), tt);
           log = physical-log (messageLog q) m k fits;
         }
 
   -- writes into the cells of one log: the other logs and the physical checkpoints are as before
   module _ (n : ℕ) (log : Log) (planned : Planned T log) (ws : List Write) (into : IntoLog n log ws) where
-    aside : (a : ℕ) → (Of n log a → ⊥) → cell (writeAll st ws) a ≡ cell st a
+    aside : (a : ℕ) → (Of present n log a → ⊥) → cell (writeAll st ws) a ≡ cell st a
     aside a h =
         kept st ws a
-        (each-map (λ w. Of n log (w .cell)) (λ w. a ≡ w .cell → ⊥) (λ w own e. h (rw e own)) ws into)
+        (each-map (λ w. Of present n log (w .cell)) (λ w. a ≡ w .cell → ⊥) (λ w own e. h (rw e own)) ws into)
 
     pub log-other : (other : Log) → Planned T other → (log ≡ other → ⊥) → (k : ℕ) → k ≤ places other
         → SameLog n other k st (writeAll st ws)
@@ -201,7 +203,7 @@ module _ (T : Topology) (st : List ℕ) (sized : Sized T st) where
     log-counted = append-counts st at count entry inside
 
     pub log-appended : entriesBy after n log (count + 1) ≡ entriesBy st n log count ++ (entry ∷ [])
-    unfolding entriesBy logWrites
+    unfolding form.entriesBy logWrites
     log-appended =
         subst (λ (w : ℕ). entriesFrom after w at (count + 1) ≡ entriesFrom st w at count ++ (entry ∷ []))
         (entry-length log r) (appends st at count entry inside)
@@ -220,9 +222,9 @@ module _ (T : Topology) (st : List ℕ) (sized : Sized T st) where
     unfolding commitWrites writeAll
     committed = written st (record { cell = lineCell; value = n }) (line-in-store sized)
 
-    uncommitted : (j a : ℕ) → Within j a → cell (writeAll st (commitWrites n)) a ≡ cell st a
+    uncommitted : (j a : ℕ) → Within present j a → cell (writeAll st (commitWrites n)) a ≡ cell st a
     unfolding commitWrites
-    uncommitted j a within = kept st (commitWrites n) a (λ e. line-outside j (subst (Within j) e within), tt)
+    uncommitted j a within = kept st (commitWrites n) a (λ e. line-outside j (subst (Within present j) e within), tt)
 
     pub committed-log : (j : ℕ) (log : Log) → Planned T log → (k : ℕ) → k ≤ places log
         → SameLog j log k st (writeAll st (commitWrites n))

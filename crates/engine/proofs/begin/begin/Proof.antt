@@ -19,6 +19,7 @@ use Rattle.model.specs.Sound.{lastLine}
 use Rattle.model.specs.Write.{writeAll}
 use Rattle.model.specs.Change.{inPhase, withRound, withCounts}
 use Rattle.model.specs.Step.{priorChecks, roomChecks, logChecks, ownChecks, nextLine, effect}
+use Rattle.model.specs.Layout.{present}
 use Rattle.model.proofs.store.Sizes.{Sized}
 use Rattle.engine.proofs.Bounds.{sound-sized}
 use Rattle.engine.proofs.Clearing.{clear-length}
@@ -74,7 +75,7 @@ module _ (e : tie.Else2) where
   may : firstRefusal (ownChecks (view state) Begin) ≡ none
   may = passed state (idle (e .before .before)) (e .if2 .left)
 
-  sized : Sized (state .topology) (now (began .args .store))
+  sized : Sized present (state .topology) (now (began .args .store))
   sized = sound-sized state (began .pre .0) (now (began .args .store)) (began .pre .1)
 
 clear-requires : tie.Need-clear-requires

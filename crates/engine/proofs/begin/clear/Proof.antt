@@ -3,7 +3,7 @@ use Prim.Native.Nat.{ℕ}
 use native.Mathlib.Omega.{arith}
 use borrow.Author.Needs.{needs}
 use denote.Ref.{now}
-use Rattle.model.specs.Layout.{messageLog, channelLog}
+use Rattle.model.specs.Layout.{present, messageLog, channelLog}
 use Rattle.model.proofs.store.Sizes.{Sized}
 use Rattle.model.proofs.store.Addresses.{in-store, count-within, message-cell, channel-cell}
 use Rattle.model.specs.Write.{clearWrites}
@@ -12,7 +12,7 @@ use Rattle.engine.proofs.Stores.{spent-then, spent-length}
 use Rattle.engine.proofs.begin.clear.Statement.{statement}
 use Rattle.engine.proofs.begin.clear.Tie as tie
 
-sized : (c : tie.Start) → Sized (c .args .t) (now (c .args .store))
+sized : (c : tie.Start) → Sized present (c .args .t) (now (c .args .store))
 sized c = record { processes = c .pre .0; channels = c .pre .1; cells = c .pre .2 }
 
 zeros-requires : tie.Need-zeros-requires
@@ -22,7 +22,7 @@ zeros-requires c κs = λ (i : ℕ) l.
     omega (
       arith,
       f .message-count-cell .ensures,
-      message-cell (b .args .line) i,
+      message-cell present (b .args .line) i,
       in-store (sized b) _ _ (count-within (sized b) (b .args .line) (messageLog i) l),
     )
 
@@ -38,7 +38,7 @@ zeros-requires-2 c κs = λ (i : ℕ) l.
     omega (
       arith,
       f .channel-count-cell .ensures,
-      channel-cell (b .args .line) i,
+      channel-cell present (b .args .line) i,
       spent-length (z .zeros .ensures),
       in-store (sized b) _ _ (count-within (sized b) (b .args .line) (channelLog i) l),
     )

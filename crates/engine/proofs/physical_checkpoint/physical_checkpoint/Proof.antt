@@ -22,6 +22,7 @@ use Rattle.model.specs.State.{view}
 use Rattle.model.specs.Write.{writeAll, physicalWrites}
 use Rattle.model.specs.Change.{inPhase, withRound, withProgress}
 use Rattle.model.specs.Step.{priorChecks, roomChecks, logChecks, ownChecks, nextLine, afterPhysical, effect}
+use Rattle.model.specs.Layout.{present}
 use Rattle.model.proofs.laws.Tests.{true-is-not-false}
 use Rattle.model.proofs.store.Sizes.{Sized}
 use Rattle.model.proofs.store.Addresses.{in-store, physical-within}
@@ -85,7 +86,7 @@ module _ (e : tie.Else2) where
   abbrev process : ℕ
   process = began .args .process
 
-  sized : Sized (state .topology) (now (began .args .store))
+  sized : Sized present (state .topology) (now (began .args .store))
   sized = sound-sized state (began .pre .0) (now (began .args .store)) (began .pre .1)
 
   below : process < processLimit

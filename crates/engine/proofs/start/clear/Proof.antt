@@ -1,19 +1,20 @@
 -- `engine::start::clear` meets its contract: the writes one after the other, and more budget than they need.
 use borrow.Author.Needs.{needs}
 use native.Mathlib.Omega.{arith}
-use Rattle.model.specs.Layout.{slot, channelRecord, countCell}
 use Rattle.model.proofs.store.Sizes.{Sized, sized-start}
 use Rattle.engine.proofs.Stores.{spent-length}
 use Rattle.engine.proofs.Clearing.{all-cleared}
 use Rattle.engine.proofs.start.clear.Statement.{statement}
 use Rattle.engine.proofs.start.clear.Tie as tie
+use Rattle.model.specs.Form as form
+use Rattle.model.specs.Layout.{present}
 
 -- the topology's sizes and the store's
-sized : (c : tie.Start) → Sized (c .args .topology) (c .args .store .now)
-sized c = sized-start (c .args .topology) (c .args .store .now) (c .pre)
+sized : (c : tie.Start) → Sized present (c .args .topology) (c .args .store .now)
+sized c = sized-start present (c .args .topology) (c .args .store .now) (c .pre)
 
 zeros-requires : tie.Need-zeros-requires
-unfolding countCell channelRecord slot
+unfolding form.countCell form.channelRecord form.slot
 zeros-requires c κs i l =
     let k = c .before .before .before .before .before in
     let s = sized (k .before .before .before) in

@@ -5,7 +5,7 @@ use native.Mathlib.Omega.{arith}
 use Prim.Native.Nat.{_-_, _≤_}
 use mathlib.Core.Path.{_≡_}
 use Rattle.model.specs.Notation.{concatBelow}
-use Rattle.model.specs.Layout.{slot, processRecord, physicalCell}
+use Rattle.model.specs.Form as form
 use Rattle.engine.specs.Spent.{Spent, clearProcess}
 use Rattle.model.proofs.laws.Lists.{concat-more}
 use Rattle.engine.proofs.Stores.{none-spent, spent-then, spent-length}
@@ -24,7 +24,7 @@ unfolding concatBelow
 loop-holds c = (omega arith, none-spent _ _)
 
 zeros-requires : tie.Need-zeros-requires Inv-loop μ-loop
-unfolding physicalCell processRecord slot
+unfolding form.physicalCell form.processRecord form.slot
 zeros-requires c κs i l =
     omega (arith, c .physical-cell .ensures, spent-length (c .before .before .before .loop .inv .1))
 

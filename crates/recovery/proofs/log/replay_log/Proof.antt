@@ -6,7 +6,7 @@ use mathlib.Core.Path.{_≡_, refl, sym, ap, _∙_}
 use mathlib.Core.List.{List, map, map-append}
 use Rattle.model.specs.Notation.{tabulate}
 use Rattle.model.specs.declared.Receipt.{Receipt}
-use Rattle.model.specs.Word.{receipt, enter, replay}
+use Rattle.model.specs.Word.{receipt, enter, replay, replayBy}
 use Rattle.model.specs.Layout.{cell, messageEntryCells, entryCell, cellsFrom, entriesFrom, receiptIn}
 use Rattle.model.proofs.laws.Lists.{tabulate-more}
 use Rattle.model.proofs.laws.HistoryLaws.{replay-snoc}
@@ -37,7 +37,7 @@ abbrev μ-loop : tie.MeasureT-loop
 μ-loop store at word n w₀ i₀ w i = n - i
 
 loop-holds : tie.Need-loop-holds Inv-loop μ-loop
-unfolding tabulate replay entriesFrom
+unfolding tabulate replayBy entriesFrom
 loop-holds c = (omega arith, refl)
 
 loop-again : tie.Need-loop-again Inv-loop μ-loop

@@ -10,9 +10,10 @@ use lib.ListN.{length, getD, length-set}
 use Rattle.model.specs.Channel.{entries, messages}
 use Rattle.model.specs.State.{emptyChannel}
 use Rattle.model.specs.Topology.{channelLimit}
-use Rattle.model.specs.Layout.{cell, Log, channelLog, entriesBy, bodiesBy, logged}
+use Rattle.model.specs.Layout.{cell, Log, channelLog}
 use Rattle.model.proofs.laws.Functions.{filledBelow, filled-none, filled-more}
 use Rattle.model.specs.Start.{storedLine}
+use Rattle.model.specs.Form as form
 use Rattle.recovery.specs.Starts.{bodiesAt}
 use Rattle.recovery.proofs.Recovering.{no-entries}
 use Rattle.recovery.proofs.Recovering.{Readable, readable, last-in-store, channelOf, channels-below}
@@ -53,7 +54,7 @@ fill-requires c κs =
     rw (c .channel-count-cell .ensures) (k .fits log (t .if1 .taken), last-in-store k log (t .if1 .taken))
 
 loop-again : tie.Need-loop-again Inv-loop μ-loop
-unfolding storedLine cell logged bodiesBy entriesBy
+unfolding storedLine cell form.logged form.bodiesBy form.entriesBy
 loop-again c =
     let t = c .before .before in
     let l = t .before .before .loop in

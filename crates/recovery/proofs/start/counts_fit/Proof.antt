@@ -2,19 +2,20 @@
 use borrow.Author.Needs.{needs}
 use borrow.Author.Tests.{not-true, not-false}
 use native.Mathlib.Omega.{arith}
-use Rattle.model.specs.Layout.{cell, slot, processRecord, channelRecord, countCell}
+use Rattle.model.specs.Layout.{present, cell}
 use Rattle.model.specs.Start.{storedLine}
+use Rattle.model.specs.Form as form
 use Rattle.model.proofs.store.Sizes.{Sized, sized-start}
 use Rattle.recovery.proofs.Recovering.{messages-over, messages-fit}
 use Rattle.recovery.proofs.start.counts_fit.Statement.{statement}
 use Rattle.recovery.proofs.start.counts_fit.Tie as tie
 
 -- the topology's sizes and the store's
-sized : (c : tie.Start) → Sized (c .args .topology) (c .args .store .now)
-sized c = sized-start (c .args .topology) (c .args .store .now) (c .pre)
+sized : (c : tie.Start) → Sized present (c .args .topology) (c .args .store .now)
+sized c = sized-start present (c .args .topology) (c .args .store .now) (c .pre)
 
 at-most-requires : tie.Need-at-most-requires
-unfolding countCell processRecord slot
+unfolding form.countCell form.processRecord form.slot
 at-most-requires c κs i l = let s = sized (c .before .before .before) in omega (arith, c .message-count-cell .ensures)
 
 returns : tie.Need-returns
@@ -24,7 +25,7 @@ returns c =
     messages-over _ _ (m .message-count-cell .ensures) (c .before .at-most .ensures) (not-true _ (c .if1 .taken))
 
 at-most-requires-2 : tie.Need-at-most-requires-2
-unfolding countCell channelRecord slot
+unfolding form.countCell form.channelRecord form.slot
 at-most-requires-2 c κs i l =
     let s = sized (c .before .before .before .before .before .before) in
     omega (arith, c .channel-count-cell .ensures)

@@ -7,8 +7,10 @@ use native.Mathlib.Omega.{arith}
 use lib.ListN.{length, getD, length-set}
 use Rattle.model.specs.Word.{replay}
 use Rattle.model.specs.Topology.{processLimit}
-use Rattle.model.specs.Layout.{cell, slot, processRecord, physicalCell, messageLog, entriesBy, receiptsBy}
-use Rattle.model.specs.Start.{storedLine, restoredBy, restored}
+use Rattle.model.specs.Layout.{cell, messageLog}
+use Rattle.model.specs.Start.{storedLine}
+use Rattle.model.specs.Form as form
+use Rattle.model.specs.Restart as restart
 use Rattle.model.proofs.laws.Functions.{seen-replicate, filledBelow, filled-none, filled-more}
 use Rattle.recovery.specs.Starts.{receiptsAt}
 use Rattle.recovery.proofs.Recovering.{Readable, readable, last-in-store, wordOf, words-below}
@@ -38,7 +40,7 @@ at t = t .before .before .loop .p
 -- the physical checkpoint's cell is in the store
 physical-in : (c : tie.After-physical-cell Inv-loop μ-loop)
     → c .physical-cell .result < length (start (c .before) .args .store .now)
-unfolding physicalCell processRecord slot
+unfolding form.physicalCell form.processRecord form.slot
 physical-in c = let s = known (start (c .before)) .sized in omega (arith, c .physical-cell .ensures)
 
 loop-holds : tie.Need-loop-holds Inv-loop μ-loop
@@ -56,7 +58,7 @@ array-write-r : tie.Need-array-write-r Inv-loop μ-loop
 array-write-r c = omega (arith, known (start (c .before .before .before .before)) .sized .processes)
 
 loop-again : tie.Need-loop-again Inv-loop μ-loop
-unfolding storedLine cell restored restoredBy receiptsBy entriesBy
+unfolding storedLine cell restart.restored restart.restoredBy form.receiptsBy form.entriesBy
 loop-again c =
     let t = c .before .before .before .before in
     let l = t .before .before .loop in

@@ -1,11 +1,11 @@
 -- `rules::layout::channel_count_cell` meets its contract: the count stands first in a channel's record.
 use borrow.Author.Needs.{needs}
-use Rattle.model.specs.Layout.{slot, channelRecord, countCell}
 use Rattle.rules.proofs.layout.channel_count_cell.Statement.{statement}
 use Rattle.rules.proofs.layout.channel_count_cell.Tie as tie
+use Rattle.model.specs.Form as form
 
 pub channel-count-cell-spec : {M : Type 1} → statement M
-unfolding slot channelRecord countCell
+unfolding form.slot form.channelRecord form.countCell
 channel-count-cell-spec =
     tie.close
     (tie.spec
