@@ -3,12 +3,12 @@ use Prim.Native.Nat.{ℕ, zero, suc, _+_, _-_, _<_, _≤_}
 use mathlib.Core.Path.{_≡_, refl, sym, ap, _∙_}
 use mathlib.Core.List.{List, [], _∷_, _++_}
 use native.Mathlib.Omega.{arith}
-use native.Mathlib.Numerals.{unary-clauses, add-one}
-use lib.ListN.{length, getD, take, length-append}
-use lib.Seq.{take-nil, take-all, take-suc, length-take-le}
-use Rattle.model.specs.Write.{Write, write, writeAll, cellWrites}
+use native.Mathlib.Numerals.{unary-clauses}
+use lib.ListN.{length, take, length-append}
+use lib.Seq.{take-nil, take-all}
+use Rattle.model.specs.Write.{Write, write, writeAll}
 use Rattle.model.proofs.store.Writes.{length-writeAll}
-use Rattle.engine.specs.Spent.{Spent, oneWrite}
+use Rattle.engine.specs.Spent.{Spent}
 
 -- what lasts for xs and then ys: xs first, and ys with what is left
 lasting-append : (st : List ℕ) (b : ℕ) (xs ys : List Write)
@@ -17,24 +17,6 @@ unfolding writeAll
 lasting-append st b [] ys = simp (unary-clauses, take-nil)
 lasting-append st zero (x ∷ xs) ys = let e : 0 - length (x ∷ xs) ≡ 0 = omega arith in rw e
 lasting-append st (suc b) (x ∷ xs) ys = lasting-append (write st x) b xs ys ∙ simp unary-clauses
-
--- values into the cells from `at` on, one more of them
-cells-append : (at : ℕ) (xs ys : List ℕ)
-    → cellWrites at (xs ++ ys) ≡ cellWrites at xs ++ cellWrites (at + length xs) ys
-unfolding cellWrites
-cells-append at [] ys = let e : at ≡ at + 0 = omega arith in ap (λ (a : ℕ). cellWrites a ys) e
-cells-append at (x ∷ xs) ys =
-    let e : at + 1 + length xs ≡ at + length (x ∷ xs) = omega arith in
-    ap (λ (ws : List Write). record { cell = at; value = x } ∷ ws)
-    (cells-append (at + 1) xs ys ∙ ap (λ (a : ℕ). cellWrites (at + 1) xs ++ cellWrites a ys) e)
-
-pub cells-more : (at : ℕ) (vs : List ℕ) (i : ℕ) → i < length vs
-    → cellWrites at (take (i + 1) vs) ≡ cellWrites at (take i vs) ++ oneWrite (at + i) (getD vs i 0)
-unfolding cellWrites
-cells-more at vs i l =
-    rw (add-one i, take-suc vs i 0 l)
-    (cells-append at (take i vs) (getD vs i 0 ∷ [])
-    ∙ rw (length-take-le i vs (omega arith)))
 
 -- no write, one write, and one list of writes after another
 pub none-spent : (st : List ℕ) (b : ℕ) → Spent st b [] st b

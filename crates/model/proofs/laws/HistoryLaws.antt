@@ -10,9 +10,10 @@ use lib.Seq.{take-length}
 use borrow.Author.Tests.{eq-eqb, ne-eqb}
 use native.Mathlib.Omega.{arith}
 use Rattle.model.specs.declared.Receipt.{Receipt}
-use Rattle.model.specs.Word.{receipt, enter, replay, replayBy}
+use Rattle.model.specs.Word.{receipt, enter, replay}
 use Rattle.model.specs.History.{Event, Direction, sent, received, isOn, sameDirection, bodiesOn, receiptsOf}
 use Rattle.model.specs.History.{placeOfSend}
+use Rattle.model.proofs.laws.WordLaws.{replay-snoc}
 use Rattle.model.proofs.laws.Tests.{Tested, holds, fails, test}
 
 -- the word that the receives of a history make from 0
@@ -48,16 +49,6 @@ receipts-append [] ys = refl
 receipts-append (x ∷ xs) ys =
     picked (sameDirection received (x .direction)) (receipt (x .channel) (x .body)) (receiptsOf xs) (receiptsOf ys)
     (receipts-append xs ys)
-
-pub replay-append : (w : ℕ) (xs ys : List Receipt) → replay w (xs ++ ys) ≡ replay (replay w xs) ys
-unfolding replayBy
-replay-append w [] ys = refl
-replay-append w (x ∷ xs) ys = replay-append (enter w x) xs ys
-
--- one more receipt after a log is one more entered
-pub replay-snoc : (w : ℕ) (xs : List Receipt) (r : Receipt) → replay w (xs ++ (r ∷ [])) ≡ enter (replay w xs) r
-unfolding replayBy
-replay-snoc w xs r = replay-append w xs (r ∷ [])
 
 -- the events that a step adds
 abbrev pub sentOn : ℕ → ℕ → Event
@@ -109,7 +100,7 @@ word-sent xs c b = ap (replay 0) (receipts-append xs (sentOn c b ∷ []) ∙ app
 pub word-received : (xs : List Event) (c b : ℕ) → wordOf (xs ++ (receivedOn c b ∷ [])) ≡ enter (wordOf xs) (receipt c b)
 unfolding wordOf receiptsOf sameDirection
 word-received xs c b =
-    ap (replay 0) (receipts-append xs (receivedOn c b ∷ [])) ∙ replay-snoc 0 (receiptsOf xs) (receipt c b)
+    ap (replay 0) (receipts-append xs (receivedOn c b ∷ [])) ∙ replay-snoc enter 0 (receiptsOf xs) (receipt c b)
 
 -- marking at the end of a history leaves what stands before the mark
 pub before-end : (xs : List Event) → before (some (length xs)) xs ≡ xs

@@ -1,8 +1,12 @@
--- A law of the word rule's arithmetic: a remainder on the way changes nothing at the end.
+-- Laws of the word rule: a remainder on the way changes nothing at the end; and by any rule, one more receipt after
+-- others is one more entered.
 use Prim.Native.Nat.{ℕ, _+_, _*_, _%_, _/_}
-use mathlib.Core.Path.{_≡_, sym, ap, _∙_}
+use mathlib.Core.Path.{_≡_, refl, sym, ap, _∙_}
+use mathlib.Core.List.{List, [], _∷_, _++_}
 use native.Mathlib.Omega.{arith}
 use native.Mathlib.Nat.{mul-add, mul-left-comm, div-add-mod, add-mul-mod-self-left}
+use Rattle.model.specs.declared.Receipt.{Receipt}
+use Rattle.model.specs.Word.{replayBy}
 
 -- how many words there are
 abbrev pub modulus : ℕ
@@ -21,3 +25,9 @@ product-mod k x y =
       mul-left-comm k modulus q,
     ) in
     sym (add-mul-mod-self-left (k * r + y) modulus (k * q)) ∙ ap (λ (n : ℕ). n % modulus) e
+
+pub replay-snoc : (rule : ℕ → Receipt → ℕ) (w : ℕ) (xs : List Receipt) (r : Receipt)
+    → replayBy rule w (xs ++ (r ∷ [])) ≡ rule (replayBy rule w xs) r
+unfolding replayBy
+replay-snoc rule w [] r = refl
+replay-snoc rule w (x ∷ xs) r = replay-snoc rule (rule w x) xs r

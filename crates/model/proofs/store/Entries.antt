@@ -3,9 +3,10 @@
 use Prim.Native.Nat.{ℕ, zero, suc, _+_, _*_, _<_, _≤_}
 use mathlib.Core.Path.{_≡_, refl, ap, ap₂, _∙_}
 use mathlib.Core.List.{List, [], _∷_, _++_}
-use lib.ListN.{length, take, length-append}
-use lib.Seq.{take-append-le}
+use lib.ListN.{length, getD, take, length-append}
+use lib.Seq.{take-append-le, take-suc, length-take-le}
 use native.Mathlib.Omega.{arith}
+use native.Mathlib.Numerals.{add-one}
 use native.Mathlib.Nat.{mul-suc, mul-le-mul-left, lt-of-mul-lt-mul-left}
 use Rattle.model.specs.Layout.{cell, entryCell, cellsFrom, entriesFrom}
 use Rattle.model.specs.Write.{Write, write, writeAll, cellWrites, appendWrites}
@@ -58,6 +59,24 @@ unfolding cellWrites
 cells-into lo hi at [] l m = tt
 cells-into lo hi at (v ∷ vs) l m =
     (record { from = l; to = omega arith }, cells-into lo hi (at + 1) vs (omega arith) (omega arith))
+
+-- values into the cells from `at` on, one more of them
+cells-append : (at : ℕ) (xs ys : List ℕ)
+    → cellWrites at (xs ++ ys) ≡ cellWrites at xs ++ cellWrites (at + length xs) ys
+unfolding cellWrites
+cells-append at [] ys = let e : at ≡ at + 0 = omega arith in ap (λ (a : ℕ). cellWrites a ys) e
+cells-append at (x ∷ xs) ys =
+    let e : at + 1 + length xs ≡ at + length (x ∷ xs) = omega arith in
+    ap (λ (ws : List Write). record { cell = at; value = x } ∷ ws)
+    (cells-append (at + 1) xs ys ∙ ap (λ (a : ℕ). cellWrites (at + 1) xs ++ cellWrites a ys) e)
+
+pub cells-more : (at : ℕ) (vs : List ℕ) (i : ℕ) → i < length vs
+    → cellWrites at (take (i + 1) vs) ≡ cellWrites at (take i vs) ++ (record { cell = at + i; value = getD vs i 0 } ∷ [])
+unfolding cellWrites
+cells-more at vs i l =
+    rw (add-one i, take-suc vs i 0 l)
+    (cells-append at (take i vs) (getD vs i 0 ∷ [])
+    ∙ rw (length-take-le i vs (omega arith)))
 
 cells-outside : (st : List ℕ) (at : ℕ) (vs : List ℕ) (a : ℕ) → (Between at (at + length vs) a → ⊥)
     → cell (writeAll st (cellWrites at vs)) a ≡ cell st a

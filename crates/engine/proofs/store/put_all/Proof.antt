@@ -7,7 +7,8 @@ use lib.ListN.{length, take}
 use lib.Seq.{take-length}
 use Rattle.model.specs.Write.{cellWrites}
 use Rattle.engine.specs.Spent.{Spent}
-use Rattle.engine.proofs.Stores.{cells-more, none-spent, spent-then, spent-length}
+use Rattle.model.proofs.store.Entries.{cells-more}
+use Rattle.engine.proofs.Stores.{none-spent, spent-then, spent-length}
 use Rattle.engine.proofs.store.put_all.Statement.{statement}
 use Rattle.engine.proofs.store.put_all.Tie as tie
 

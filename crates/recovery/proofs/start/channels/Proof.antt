@@ -10,13 +10,14 @@ use lib.ListN.{length, getD, length-set}
 use Rattle.model.specs.Channel.{entries, messages}
 use Rattle.model.specs.State.{emptyChannel}
 use Rattle.model.specs.Topology.{channelLimit}
-use Rattle.model.specs.Layout.{cell, Log, channelLog}
+use Rattle.model.specs.Layout.{present, cell, Log, channelLog}
 use Rattle.model.proofs.laws.Functions.{filledBelow, filled-none, filled-more}
 use Rattle.model.specs.Start.{storedLine}
 use Rattle.model.specs.Form as form
+use Rattle.model.proofs.store.Readable.{Readable, readable, last-in-store}
 use Rattle.recovery.specs.Starts.{bodiesAt}
 use Rattle.recovery.proofs.Recovering.{no-entries}
-use Rattle.recovery.proofs.Recovering.{Readable, readable, last-in-store, channelOf, channels-below}
+use Rattle.recovery.proofs.Recovering.{channelOf, channels-below}
 use Rattle.recovery.proofs.start.channels.Statement.{statement}
 use Rattle.recovery.proofs.start.channels.Tie as tie
 
@@ -30,8 +31,8 @@ abbrev μ-loop : tie.MeasureT-loop
 μ-loop topology store line r₀ c₀ r c = topology .channels - c
 
 -- nothing was refused
-known : (c : tie.Start Inv-loop μ-loop) → Readable (c .args .topology) (c .args .store .now)
-known c = readable (c .args .topology) (c .args .store .now) (c .pre)
+known : (c : tie.Start Inv-loop μ-loop) → Readable present (c .args .topology) (c .args .store .now)
+known c = readable present (c .args .topology) (c .args .store .now) (c .pre)
 
 -- where a turn begins
 abbrev start : tie.Then1 Inv-loop μ-loop → tie.Start Inv-loop μ-loop

@@ -6,7 +6,7 @@ use Rattle.model.specs.Layout.{present, cell}
 use Rattle.model.specs.Start.{storedLine}
 use Rattle.model.specs.Form as form
 use Rattle.model.proofs.store.Sizes.{Sized, sized-start}
-use Rattle.recovery.proofs.Recovering.{messages-over, messages-fit}
+use Rattle.model.proofs.store.Readable.{messages-over, messages-fit}
 use Rattle.recovery.proofs.start.counts_fit.Statement.{statement}
 use Rattle.recovery.proofs.start.counts_fit.Tie as tie
 
@@ -22,7 +22,7 @@ returns : tie.Need-returns
 unfolding storedLine cell
 returns c =
     let m = c .before .before in
-    messages-over _ _ (m .message-count-cell .ensures) (c .before .at-most .ensures) (not-true _ (c .if1 .taken))
+    messages-over present _ _ (m .message-count-cell .ensures) (c .before .at-most .ensures) (not-true _ (c .if1 .taken))
 
 at-most-requires-2 : tie.Need-at-most-requires-2
 unfolding form.countCell form.channelRecord form.slot
@@ -34,7 +34,7 @@ returns-2 : tie.Need-returns-2
 unfolding storedLine cell
 returns-2 c =
     let e = c .before .before in
-    messages-fit _ _ (e .before .before .message-count-cell .ensures) (e .before .at-most .ensures)
+    messages-fit present _ _ (e .before .before .message-count-cell .ensures) (e .before .at-most .ensures)
     (not-false _ (e .if1 .left)) (c .before .channel-count-cell .ensures) (c .at-most2 .ensures)
 
 pub counts-fit-spec : {M : Type 1} → statement M

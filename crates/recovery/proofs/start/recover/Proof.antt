@@ -3,12 +3,12 @@ use mathlib.Core.Path.{_≡_, refl, sym, ap, _∙_}
 use mathlib.Core.Option.{none}
 use borrow.Author.Needs.{needs}
 use native.Mathlib.Omega.{arith}
-use Rattle.model.specs.Layout.{cell}
+use Rattle.model.specs.Layout.{present, cell}
 use Rattle.model.specs.Start.{recover, recoverRefusal, storedLine}
 use Rattle.model.specs.Outcome.{refusalOf}
 use Rattle.model.specs.Restart as restart
 use Rattle.recovery.proofs.Recovering.{starts-ready, starts-refused}
-use Rattle.recovery.proofs.Recovering.{readable}
+use Rattle.model.proofs.store.Readable.{readable}
 use Rattle.recovery.proofs.start.recover.Statement.{statement}
 use Rattle.recovery.proofs.start.recover.Tie as tie
 
@@ -19,7 +19,7 @@ unfolding refusalOf
 ready c = sym (c .before .before .admit-store .ensures) ∙ ap refusalOf (c .enum-told .given .1)
 
 shared-slice-read-idle : tie.Need-shared-slice-read-idle
-shared-slice-read-idle c = omega (arith, readable _ _ (ready (c .before .before .before)) .sized .cells)
+shared-slice-read-idle c = omega (arith, readable present _ _ (ready (c .before .before .before)) .sized .cells)
 
 returns : tie.Need-returns
 unfolding restart.recover storedLine cell

@@ -7,13 +7,14 @@ use native.Mathlib.Omega.{arith}
 use lib.ListN.{length, getD, length-set}
 use Rattle.model.specs.Word.{replay}
 use Rattle.model.specs.Topology.{processLimit}
-use Rattle.model.specs.Layout.{cell, messageLog}
+use Rattle.model.specs.Layout.{present, cell, messageLog}
 use Rattle.model.specs.Start.{storedLine}
 use Rattle.model.specs.Form as form
 use Rattle.model.specs.Restart as restart
 use Rattle.model.proofs.laws.Functions.{seen-replicate, filledBelow, filled-none, filled-more}
+use Rattle.model.proofs.store.Readable.{Readable, readable, last-in-store}
 use Rattle.recovery.specs.Starts.{receiptsAt}
-use Rattle.recovery.proofs.Recovering.{Readable, readable, last-in-store, wordOf, words-below}
+use Rattle.recovery.proofs.Recovering.{wordOf, words-below}
 use Rattle.recovery.proofs.start.words.Statement.{statement}
 use Rattle.recovery.proofs.start.words.Tie as tie
 
@@ -27,8 +28,8 @@ abbrev μ-loop : tie.MeasureT-loop
 μ-loop topology store line r₀ p₀ r p = topology .processes - p
 
 -- nothing was refused
-known : (c : tie.Start Inv-loop μ-loop) → Readable (c .args .topology) (c .args .store .now)
-known c = readable (c .args .topology) (c .args .store .now) (c .pre)
+known : (c : tie.Start Inv-loop μ-loop) → Readable present (c .args .topology) (c .args .store .now)
+known c = readable present (c .args .topology) (c .args .store .now) (c .pre)
 
 -- where a turn begins
 abbrev start : tie.Then1 Inv-loop μ-loop → tie.Start Inv-loop μ-loop
