@@ -6,29 +6,11 @@ use rules::layout;
 use rules::word;
 ghost use mathlib.Core.Path.{_≡_};
 ghost use mathlib.Core.Bool.{false};
-ghost use Prim.Native.Nat.{ℕ, _+_, _*_, _<_, _≤_};
-ghost use lib.ListN.{length};
-ghost use lib.Dec.{leb};
-ghost use Rattle.model.specs.Notation.{allBelow};
+ghost use Prim.Native.Nat.{_≤_};
 ghost use Rattle.model.specs.Word.{replay};
 ghost use Rattle.model.specs.Channel.{channelRoom, entries, messages};
 ghost use Rattle.model.specs.Layout.{cell, messageEntryCells, channelEntryCells};
 ghost use Rattle.recovery.specs.Starts.{Ends, receiptsAt, bodiesAt};
-
-// Whether n cells, from first on and each a stride after the one before, hold at most the limit.
-pub fn at_most(store: &[u32], first: usize, stride: usize, n: u8, limit: u8) -> bool
-    requires { ⌜ ((i : ℕ) → i < n → first + stride * i < length (now store)) ⌝ }
-    ensures { λ r. ⌜ r ≡ allBelow n (λ i. leb (cell (now (store .entry)) (first + stride * i)) limit) ⌝ }
-{
-    let mut i: usize = 0;
-    while i < n as usize {
-        if (limit as u32) < store[first + stride * i] {
-            return false;
-        }
-        i += 1;
-    }
-    true
-}
 
 // What the message log whose count stands in the cell at makes of a word.
 pub fn replay_log(store: &[u32], at: usize, word: u32) -> u32

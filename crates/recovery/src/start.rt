@@ -12,6 +12,7 @@ use model::Started;
 use model::State;
 use model::Topology;
 use model::Verdict;
+use rules::cells;
 use rules::channel;
 use rules::fresh;
 use rules::layout;
@@ -99,20 +100,20 @@ fn counts_fit(topology: Topology, store: &[u32]) -> bool
 {
     let line = store[layout::LINE_CELL];
     let messages = layout::message_count_cell(line, 0);
-    if !log::at_most(
+    if !cells::at_most(
         store,
-        messages,
-        layout::PROCESS_CELLS,
+        messages as u32,
+        layout::PROCESS_CELLS as u32,
         topology.processes,
         layout::MESSAGE_PLACES,
     ) {
         return false;
     }
     let channels = layout::channel_count_cell(line, 0);
-    log::at_most(
+    cells::at_most(
         store,
-        channels,
-        layout::CHANNEL_CELLS,
+        channels as u32,
+        layout::CHANNEL_CELLS as u32,
         topology.channels,
         layout::CHANNEL_PLACES,
     )

@@ -1,8 +1,8 @@
 -- Laws of lists from a function (`tabulate`, `concatBelow`), of tests below a bound (`allBelow`) and of the first below
 -- a bound (`firstBelow`): from the values, at one index, and with one more, as a loop that counts up adds them.
 use Prim.Native.Nat.{ℕ, zero, suc, _+_, _<_, _≤_}
-use mathlib.Core.Path.{_≡_, refl, ap, _∙_}
-use mathlib.Core.Bool.{Bool, true, false}
+use mathlib.Core.Path.{_≡_, refl, ap, ap₂, _∙_}
+use mathlib.Core.Bool.{Bool, true, false, _&&_}
 use mathlib.Core.List.{List, [], _∷_, _++_, map, map-append}
 use mathlib.Core.Option.{Option, none, some, Option·some-ne-none}
 use lib.ListN.{length, length-append, getD, List·getD-append}
@@ -79,6 +79,12 @@ pub all-of : (n : ℕ) (f : ℕ → Bool) → ((i : ℕ) → i < n → f i ≡ t
 unfolding allBelow
 all-of zero f h = refl
 all-of (suc n) f h = and-both (allBelow n f) (f n) (all-of n f (λ i l. h i (omega arith))) (h n (omega arith))
+
+-- tests that agree below the bound
+pub all-cong : (n : ℕ) (f g : ℕ → Bool) → ((i : ℕ) → i < n → f i ≡ g i) → allBelow n f ≡ allBelow n g
+unfolding allBelow
+all-cong zero f g h = refl
+all-cong (suc n) f g h = ap₂ _&&_ (all-cong n f g (λ i l. h i (omega arith))) (h n (omega arith))
 
 -- one more number passes; one that fails decides
 pub all-next : (n : ℕ) (f : ℕ → Bool) → allBelow n f ≡ true → f n ≡ true → allBelow (n + 1) f ≡ true

@@ -1,34 +1,43 @@
 -- What a store that a restart by its form's rules doesn't refuse has: its cells, and every log of its line within its
 -- places. The counts are tested by runs from the first of each kind, and a log's replay goes entry by entry.
 use Prim.Native.Nat.{ℕ, _+_, _*_, _<_, _≤_}
-use mathlib.Core.Path.{_≡_, sym, ap, fun-ext, _∙_}
+use mathlib.Core.Path.{_≡_, refl, ap, _∙_}
 use mathlib.Core.Bool.{Bool, true, false, not, _&&_}
 use mathlib.Core.List.{List, [], _∷_, map, map-append}
 use mathlib.Core.Option.{none}
 use lib.ListN.{length}
-use lib.Dec.{leb}
-use borrow.Author.Tests.{leb-true, not-false}
+use lib.Dec.{leb, ltb}
+use borrow.Author.Tests.{leb-true, lt-ltb, not-false}
 use native.Mathlib.Omega.{arith}
 use Rattle.model.specs.declared.Topology.{Topology}
 use Rattle.model.specs.declared.Receipt.{Receipt}
 use Rattle.model.specs.Notation.{tabulate, allBelow}
 use Rattle.model.specs.Check.{Check, _⇒_, firstRefusal}
+use Rattle.model.specs.Topology.{topologyRefusal}
 use Rattle.model.specs.Word.{replayBy}
 use Rattle.model.specs.Form.{Form, cell, Log, messageLog, channelLog, messagePlaces, channelPlaces, places}
 use Rattle.model.specs.Form.{channelEntryCells, channelCells, entryCell, cellsFrom, entriesFrom, receiptIn, bodyIn}
 use Rattle.model.specs.Form.{entryCells, processCells, countCell}
 use Rattle.model.specs.Restart.{initializeRefusal, recoverRefusal, storedLine, countFits, countsFit}
 use Rattle.model.proofs.laws.Tests.{and-left, and-right}
-use Rattle.model.proofs.laws.Lists.{all-at, or-else-none, tabulate-cong, tabulate-more, map-tabulate}
+use Rattle.model.proofs.laws.Lists.{all-at, all-cong, or-else-none, tabulate-cong, tabulate-more, map-tabulate}
 use Rattle.model.proofs.laws.Passing.{passed}
 use Rattle.model.proofs.laws.TopologyLaws.{Planned}
 use Rattle.model.proofs.laws.WordLaws.{replay-snoc}
-use Rattle.model.proofs.store.Sizes.{Sized, sized-start}
-use Rattle.model.proofs.store.Addresses.{Upto, upto-more, in-store, log-within, message-cell, channel-cell}
+use Rattle.model.proofs.store.Sizes.{Sized, admitted, sized-start}
+use Rattle.model.proofs.store.Addresses.{Upto, upto-more, message-cell, channel-cell, in-store, log-within}
+use Rattle.model.proofs.store.Addresses.{count-within}
 
 pub record Readable (F : Form) (T : Topology) (st : List ℕ) : Type 0 where
   pub sized : Sized F T st
   pub fits : (log : Log) → Planned T log → cell st (countCell F (storedLine st) log) ≤ places log
+
+-- its topology is accepted
+pub readable-topology : (F : Form) (T : Topology) (st : List ℕ) → recoverRefusal F T st ≡ none
+    → topologyRefusal T ≡ none
+unfolding recoverRefusal
+readable-topology F T st e =
+    admitted F T (length st) (or-else-none (initializeRefusal F T (length st)) _ e .0) .0
 
 pub readable : (F : Form) (T : Topology) (st : List ℕ) → recoverRefusal F T st ≡ none → Readable F T st
 unfolding recoverRefusal countsFit countFits
@@ -47,36 +56,47 @@ readable F T st e = record { sized = sized-start F T st (both .0); fits = fits }
     fits (messageLog p) l = leb-true _ _ (all-at (T .processes) _ (and-left _ _ fit) p l)
     fits (channelLog c) l = leb-true _ _ (all-at (T .channels) _ (and-right (allBelow (T .processes) _) _ fit) c l)
 
--- the first n of the cells f hold at most the limit
-abbrev within : List ℕ → ℕ → (ℕ → ℕ) → ℕ → Bool
-within st n f limit = allBelow n (λ i. leb (cell st (f i)) limit)
+-- the first n of the cells f are in the store and hold at most the limit
+abbrev holding : List ℕ → ℕ → (ℕ → ℕ) → ℕ → Bool
+holding st n f limit = allBelow n (λ i. ltb (f i) (length st) && leb (cell st (f i)) limit)
+
+-- the first n logs of a kind are tested so, by the cells of their counts
+all-held : (F : Form) (st : List ℕ) (k n : ℕ) (log : ℕ → Log) (f : ℕ → ℕ) (limit : ℕ)
+    → ((i : ℕ) → i < n → f i ≡ countCell F k (log i)) → ((i : ℕ) → i < n → countCell F k (log i) < length st)
+    → ((i : ℕ) → places (log i) ≡ limit) → holding st n f limit ≡ allBelow n (λ i. countFits F st k (log i))
+unfolding countFits
+all-held F st k n log f limit at inside places-are =
+    all-cong n _ _ (λ i l. rw (at i l, lt-ltb _ _ (inside i l), places-are i))
 
 -- The test of the line's counts, by runs from the first of each kind: a message log that is over decides, else the
 -- channel logs do.
-module _ (F : Form) (T : Topology) (st : List ℕ) {first : ℕ} (at : first ≡ countCell F (storedLine st) (messageLog 0))
-    {fit : Bool} (tested : fit ≡ within st (T .processes) (λ p. first + processCells F * p) messagePlaces) where
-  abbrev channelsFit : Bool
-  channelsFit = within st (T .channels) (λ c. countCell F (storedLine st) (channelLog c)) channelPlaces
+module _ {F : Form} {T : Topology} {st : List ℕ} (sized : Sized F T st) where
+  abbrev k : ℕ
+  k = storedLine st
 
-  counts-from : countsFit F T st ≡ (fit && channelsFit)
-  unfolding countsFit countFits
-  counts-from =
-      rw tested
-      (ap (λ (f : ℕ → ℕ). within st (T .processes) f messagePlaces && channelsFit)
-      (fun-ext (λ p. sym (rw at (message-cell F (storedLine st) p)))))
+  inside : (log : Log) → Planned T log → countCell F k log < length st
+  inside log planned = in-store sized k (countCell F k log) (count-within sized k log planned)
 
-  pub messages-over : fit ≡ false → false ≡ countsFit F T st
-  messages-over e = sym (counts-from ∙ rw e)
+  module _ {first : ℕ} (at : first ≡ countCell F k (messageLog 0)) {fit : Bool}
+      (tested : fit ≡ holding st (T .processes) (λ p. first + processCells F * p) messagePlaces) where
+    messages-tested : fit ≡ allBelow (T .processes) (λ p. countFits F st k (messageLog p))
+    messages-tested =
+        tested
+        ∙ all-held F st k (T .processes) messageLog _ messagePlaces (λ p l. rw at (message-cell F k p))
+        (λ p. inside (messageLog p)) (λ p. refl)
 
-  pub messages-fit : fit ≡ true → {channels : ℕ} → channels ≡ countCell F (storedLine st) (channelLog 0) → {rest : Bool}
-      → rest ≡ within st (T .channels) (λ c. channels + channelCells * c) channelPlaces → rest ≡ countsFit F T st
-  messages-fit e where-first q =
-      q
-      ∙ sym
-      (counts-from
-      ∙ rw e
-      (ap (λ (f : ℕ → ℕ). within st (T .channels) f channelPlaces)
-      (fun-ext (λ c. sym (rw where-first (channel-cell F (storedLine st) c))))))
+    pub messages-over : fit ≡ false → false ≡ countsFit F T st
+    unfolding countsFit
+    messages-over e = rw (← messages-tested, e)
+
+    pub messages-fit : fit ≡ true → {channels : ℕ} → channels ≡ countCell F k (channelLog 0) → {rest : Bool}
+        → rest ≡ holding st (T .channels) (λ c. channels + channelCells * c) channelPlaces → rest ≡ countsFit F T st
+    unfolding countsFit
+    messages-fit e start q =
+        rw (← messages-tested, e)
+        (q
+        ∙ all-held F st k (T .channels) channelLog _ channelPlaces (λ c l. rw start (channel-cell F k c))
+        (λ c. inside (channelLog c)) (λ c. refl))
 
 -- the last cell of a log's last entry, too, is in the store
 pub last-in-store : {F : Form} {T : Topology} {st : List ℕ} → Readable F T st → (log : Log) → Planned T log

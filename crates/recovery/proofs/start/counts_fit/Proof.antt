@@ -14,27 +14,27 @@ use Rattle.recovery.proofs.start.counts_fit.Tie as tie
 sized : (c : tie.Start) → Sized present (c .args .topology) (c .args .store .now)
 sized c = sized-start present (c .args .topology) (c .args .store .now) (c .pre)
 
-at-most-requires : tie.Need-at-most-requires
+cast-at-most : tie.Need-cast-at-most
 unfolding form.countCell form.processRecord form.slot
-at-most-requires c κs i l = let s = sized (c .before .before .before) in omega (arith, c .message-count-cell .ensures)
+cast-at-most c = omega (arith, c .message-count-cell .ensures)
 
 returns : tie.Need-returns
 unfolding storedLine cell
 returns c =
     let m = c .before .before in
-    messages-over present _ _ (m .message-count-cell .ensures) (c .before .at-most .ensures) (not-true _ (c .if1 .taken))
+    messages-over (sized (m .before .before .before)) (m .message-count-cell .ensures) (c .before .at-most .ensures)
+    (not-true _ (c .if1 .taken))
 
-at-most-requires-2 : tie.Need-at-most-requires-2
+cast-at-most-3 : tie.Need-cast-at-most-3
 unfolding form.countCell form.channelRecord form.slot
-at-most-requires-2 c κs i l =
-    let s = sized (c .before .before .before .before .before .before) in
-    omega (arith, c .channel-count-cell .ensures)
+cast-at-most-3 c = omega (arith, c .channel-count-cell .ensures)
 
 returns-2 : tie.Need-returns-2
 unfolding storedLine cell
 returns-2 c =
     let e = c .before .before in
-    messages-fit present _ _ (e .before .before .message-count-cell .ensures) (e .before .at-most .ensures)
+    let m = e .before .before in
+    messages-fit (sized (m .before .before .before)) (m .message-count-cell .ensures) (e .before .at-most .ensures)
     (not-false _ (e .if1 .left)) (c .before .channel-count-cell .ensures) (c .at-most2 .ensures)
 
 pub counts-fit-spec : {M : Type 1} → statement M
@@ -43,8 +43,12 @@ counts-fit-spec =
     (tie.spec
     (λ c. omega (arith, sized (c .before .before) .cells))
     (λ c κs. search needs)
-    at-most-requires
+    cast-at-most
+    (λ c. search needs)
+    (λ c κs. search needs)
     returns
     (λ c κs. search needs)
-    at-most-requires-2
+    cast-at-most-3
+    (λ c. search needs)
+    (λ c κs. search needs)
     returns-2)
