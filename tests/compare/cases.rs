@@ -3,11 +3,11 @@
 
 use crate::directed::{LISTING, LISTING_OUTPUT};
 use crate::verdicts;
+use reference::forms::NEW;
 use reference::program::{self, Program, Unwatched};
 use reference::record;
-use reference::state::{taken, Entry, Phase, State};
+use reference::state::{Entry, Phase, State};
 use reference::steps::{Outcome, Step};
-use reference::store::{self, CELLS};
 use reference::topology::Topology;
 
 type Case = (&'static str, fn() -> bool);
@@ -56,8 +56,8 @@ struct Rig {
 impl Rig {
     fn new(processes: usize, channels: &[(usize, usize)]) -> Rig {
         let topology = Topology { processes, channels: channels.to_vec() };
-        let mut store = vec![u32::MAX; CELLS];
-        let state = State::initialize(&topology, &mut store).expect("a whole plan");
+        let mut store = vec![u32::MAX; NEW.cells];
+        let state = State::initialize(NEW, &topology, &mut store).expect("a whole plan");
         Rig { state, store }
     }
 
@@ -74,7 +74,7 @@ impl Rig {
     }
 
     fn recovered(&self) -> State {
-        State::recover(&self.state.topology, &self.store).expect("a sound store")
+        State::recover(NEW, &self.state.topology, &self.store).expect("a sound store")
     }
 }
 
@@ -148,6 +148,7 @@ fn begin_cut() -> bool {
 }
 
 fn words() -> bool {
+    let taken = |word, channel, body| NEW.taken(word, channel, body);
     taken(u32::MAX, 0, 1) == 4_294_966_336
         && taken(taken(0, 0, 2), 0, 3) == 1_925
         && taken(taken(0, 0, 3), 0, 2) == 2_885
@@ -171,7 +172,7 @@ fn wire_order() -> bool {
 /// A restart looks at counts alone: it enters the wire of an entry as it stands.
 fn any_wire() -> bool {
     let mut rig = Rig::pair();
-    let log = store::message_log(0, 0);
+    let log = NEW.message_log(0, 0);
     rig.store[log..log + 3].copy_from_slice(&[1, 5, u32::MAX]);
     rig.recovered().words[0] == 4_294_967_270
 }
@@ -230,17 +231,17 @@ fn short_store() -> bool {
     let mut rig = Rig::pair();
     rig.store.pop();
     rig.step(receive(9)) == Outcome::Refused(6)
-        && State::recover(&rig.state.topology, &rig.store) == Err(6)
-        && State::initialize(&rig.state.topology, &mut rig.store) == Err(6)
+        && State::recover(NEW, &rig.state.topology, &rig.store) == Err(6)
+        && State::initialize(NEW, &rig.state.topology, &mut rig.store) == Err(6)
 }
 
 fn counts_over() -> bool {
-    let logs = [(store::message_log(1, 1), 65), (store::channel_log(1, 1), 9)];
+    let logs = [(NEW.message_log(1, 1), 65), (NEW.channel_log(1, 1), 9)];
     logs.into_iter().all(|(cell, count)| {
         let mut rig = Rig::pair();
         rig.store.fill(0);
         (rig.store[0], rig.store[cell]) = (1, count);
-        let over = State::recover(&rig.state.topology, &rig.store) == Err(16);
+        let over = State::recover(NEW, &rig.state.topology, &rig.store) == Err(16);
         rig.store[cell] = count - 1;
         over && rig.recovered().line == 1
     })

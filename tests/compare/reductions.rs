@@ -5,12 +5,12 @@ use crate::directed::{self, copies, end_round, full, pair, LISTING};
 use crate::lists::List;
 use crate::walk::{encode, Call};
 use reference::console::REDUCE;
+use reference::forms::NEW;
 use reference::program::{Program, INPUT};
 use reference::record::Record;
 use reference::reduce::MOST;
 use reference::state::State;
 use reference::steps::{Outcome, Step};
-use reference::store::CELLS;
 use reference::topology::Topology;
 
 const RECOVER: Call = (u32::MAX, Record::Recover);
@@ -83,8 +83,8 @@ fn times(number: usize, calls: &[Call]) -> Vec<Call> {
 
 /// The places of the calls that are refused, and their numbers.
 pub fn refused(topology: &Topology, calls: &[Call]) -> Vec<(usize, u8)> {
-    let mut store = vec![0; CELLS];
-    let mut state = State::initialize(topology, &mut store).expect("a whole plan");
+    let mut store = vec![0; NEW.cells];
+    let mut state = State::initialize(NEW, topology, &mut store).expect("a whole plan");
     let mut outcome =
         |call: &Call| reference::program::call(&mut state, &mut store, call.1, u64::MAX).outcome;
     let number = |(place, call)| match outcome(call) {

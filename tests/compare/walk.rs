@@ -4,11 +4,11 @@
 
 use crate::rng::Rng;
 use reference::console::REDUCE;
+use reference::forms::{Form, NEW};
 use reference::program::{call, Program};
 use reference::record::{self, Record};
 use reference::state::{Phase, State, CAPACITY};
 use reference::steps::{Outcome, Rule, Step};
-use reference::store::CELLS;
 use reference::topology::Topology;
 
 /// A call of a list: its write budget (of `drill`) and its record.
@@ -48,14 +48,25 @@ pub struct Walk<'a> {
     program: Program,
     style: Style,
     pub state: State,
-    store: Vec<u32>,
+    pub store: Vec<u32>,
     pub calls: Vec<Call>,
 }
 
 impl<'a> Walk<'a> {
     pub fn new(rng: &'a mut Rng, program: Program, topology: &Topology, style: Style) -> Walk<'a> {
-        let mut store = vec![0; CELLS];
-        let state = State::initialize(topology, &mut store).expect("a whole plan");
+        Walk::on(rng, program, NEW, topology, vec![0; NEW.cells], style)
+    }
+
+    /// On a store of this form, by the rules of that form.
+    pub fn on(
+        rng: &'a mut Rng,
+        program: Program,
+        form: Form,
+        topology: &Topology,
+        mut store: Vec<u32>,
+        style: Style,
+    ) -> Walk<'a> {
+        let state = State::initialize(form, topology, &mut store).expect("a whole plan");
         Walk { rng, program, style, state, store, calls: Vec::new() }
     }
 
@@ -113,7 +124,7 @@ impl<'a> Walk<'a> {
             Record::Step(Step::PhysicalCheckpoint { .. } | Step::Commit) => 1,
             Record::Step(Step::Receive { channel }) if channel < topology.channels.len() => {
                 match self.state.rule(channel) {
-                    Some(Rule::CopiedLogs | Rule::UnmarkedLogs) => 3,
+                    Some(Rule::CopiedLogs | Rule::UnmarkedLogs) => self.state.form.entry + 1,
                     Some(Rule::ChannelLogs) => 2,
                     _ => 0,
                 }

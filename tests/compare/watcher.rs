@@ -88,8 +88,11 @@ impl<'a> Watcher<'a> {
 
     /// What stood in the board logs that a restart has replayed.
     fn count_replayed(&mut self, state: &State, cells: &[u32]) {
-        let log = |p| store::read_log(cells, store::message_log(state.line, p), MESSAGE_LOG).ok();
-        let logs: Vec<&[[u32; 2]]> = (0..state.topology.processes).filter_map(log).collect();
+        let form = state.form;
+        let log = |p| {
+            store::read_log(cells, form.message_log(state.line, p), MESSAGE_LOG, form.entry).ok()
+        };
+        let logs: Vec<Vec<&[u32]>> = (0..state.topology.processes).filter_map(log).collect();
         if logs.iter().any(|log| log.len() == MESSAGE_LOG) {
             self.count(("restart from", "board log of 64", 0));
         }
@@ -127,7 +130,7 @@ impl Watch for Watcher<'_> {
     }
 
     fn started(&mut self, state: &State) {
-        self.histories = Some(Histories::new(&state.topology));
+        self.histories = Some(Histories::new(state.form, &state.topology));
     }
 
     fn unreadable(&mut self) {

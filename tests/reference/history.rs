@@ -2,8 +2,9 @@
 //! demand 3 checked by them. Neither state, nor logs, nor store is asked, but
 //! for what demand 3 itself says of a recover.
 
+use crate::forms::Form;
 use crate::record::Record;
-use crate::state::{taken, Entry, Phase, State};
+use crate::state::{Entry, Phase, State};
 use crate::steps::{Outcome, Step};
 use crate::topology::Topology;
 
@@ -15,6 +16,8 @@ pub enum Event {
 }
 
 pub struct Histories {
+    /// The form of the store, by whose rule the words are made.
+    form: Form,
     topology: Topology,
     events: Vec<Vec<Event>>,
     /// The last finished recovery line: a place in each process's history.
@@ -27,8 +30,9 @@ pub struct Histories {
 
 impl Histories {
     /// After an accepted initialize.
-    pub fn new(topology: &Topology) -> Histories {
+    pub fn new(form: Form, topology: &Topology) -> Histories {
         Histories {
+            form,
             topology: topology.clone(),
             events: vec![Vec::new(); topology.processes],
             line: vec![0; topology.processes],
@@ -104,7 +108,7 @@ impl Histories {
     /// Demand 3, were a recover to come next: what it gives, held against the
     /// histories as it would leave them. `Err` says what doesn't hold.
     pub fn check(&self, store: &[u32]) -> Result<(), String> {
-        let state = State::recover(&self.topology, store)
+        let state = State::recover(self.form, &self.topology, store)
             .map_err(|number| format!("recover refused {number}"))?;
         if state.phase != Phase::Idle || state.line != self.commits {
             return Err(format!("line {} after {} commits", state.line, self.commits));
@@ -119,7 +123,7 @@ impl Histories {
                     Event::Send { channel, body } => sent[channel].push(body),
                     Event::Receive { channel, body } => {
                         accounted[channel].push(body);
-                        word = taken(word, channel as u32, body);
+                        word = self.form.taken(word, channel as u32, body);
                     }
                 }
             }

@@ -5,6 +5,7 @@
 //! Names are the field's; each definition says which word of document 01 it is.
 
 pub mod console;
+pub mod forms;
 pub mod history;
 pub mod program;
 pub mod record;

@@ -2,10 +2,10 @@
 //! bytes out. `console` stands in its own file.
 
 use crate::console;
+use crate::forms::NEW;
 use crate::record::{self, Record};
 use crate::state::State;
 use crate::steps::{Answer, Outcome};
-use crate::store::CELLS;
 use crate::topology::Topology;
 use std::fmt::Write;
 use std::io::{self, Read};
@@ -36,9 +36,9 @@ pub trait Watch {
 pub struct Unwatched;
 impl Watch for Unwatched {}
 
-/// What the store holds before initialize.
-fn rubbish() -> Vec<u32> {
-    (0..CELLS as u32).map(|cell| cell.wrapping_mul(2_654_435_761)).collect()
+/// What so many cells hold before a program writes to them.
+pub fn rubbish(cells: usize) -> Vec<u32> {
+    (0..cells as u32).map(|cell| cell.wrapping_mul(2_654_435_761)).collect()
 }
 
 /// A call's write budget, the record, and the bytes after it; or 7.
@@ -59,7 +59,7 @@ pub fn call(state: &mut State, store: &mut [u32], record: Record, budget: u64) -
     let step = match record {
         Record::Step(step) => step,
         Record::Recover => {
-            let outcome = match State::recover(&state.topology, store) {
+            let outcome = match State::recover(state.form, &state.topology, store) {
                 Ok(recovered) => {
                     *state = recovered;
                     Outcome::Line(state.line)
@@ -83,9 +83,9 @@ pub fn run(program: Program, input: &[u8], watch: &mut dyn Watch) -> String {
 fn run_calls(program: Program, input: &[u8], watch: &mut dyn Watch) -> String {
     let mut text = String::new();
     let input = &input[..input.len().min(INPUT)];
-    let mut store = rubbish();
+    let mut store = rubbish(NEW.cells);
     let started = Topology::read(input).and_then(|(topology, rest)| {
-        State::initialize(&topology, &mut store).map(|state| (state, rest))
+        State::initialize(NEW, &topology, &mut store).map(|state| (state, rest))
     });
     let (mut state, mut rest) = match started {
         Ok(started) => started,
@@ -146,7 +146,7 @@ fn print_state(text: &mut String, state: &State) {
 
 /// Each cell that differs from its value before initialize.
 fn print_store(text: &mut String, store: &[u32]) {
-    for (cell, (now, before)) in store.iter().zip(rubbish()).enumerate() {
+    for (cell, (now, before)) in store.iter().zip(rubbish(store.len())).enumerate() {
         if *now != before {
             let _ = writeln!(text, "cell {cell} {now}");
         }

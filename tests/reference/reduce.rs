@@ -1,11 +1,11 @@
 //! M-100: the part of a list of calls that matters. What such a part is, and a
 //! plain way to find one.
 
+use crate::forms::NEW;
 use crate::program::call;
 use crate::record::Record;
 use crate::state::State;
 use crate::steps::Outcome;
-use crate::store::CELLS;
 use crate::topology::Topology;
 
 /// Most calls in a list.
@@ -24,8 +24,8 @@ fn run(
     topology: &Topology,
     calls: impl Iterator<Item = Record>,
 ) -> Result<(State, Option<Refusal>), u8> {
-    let mut store = vec![u32::MAX; CELLS];
-    let mut state = State::initialize(topology, &mut store)?;
+    let mut store = vec![u32::MAX; NEW.cells];
+    let mut state = State::initialize(NEW, topology, &mut store)?;
     for (place, record) in calls.enumerate() {
         let answer = call(&mut state, &mut store, record, u64::MAX);
         if let Outcome::Refused(number) = answer.outcome {

@@ -1,7 +1,8 @@
 //! The state, its soundness, initialize (document 01: setup) and recover
 //! (document 01: restart).
 
-use crate::store::{self, CELLS, CHANNEL_LOG, LINE, MESSAGE_LOG};
+use crate::forms::Form;
+use crate::store::{self, CHANNEL_LOG, LINE, MESSAGE_LOG};
 use crate::topology::{Topology, CHANNELS, PROCESSES};
 use std::collections::VecDeque;
 
@@ -33,6 +34,8 @@ pub enum Phase {
 
 #[derive(Clone, Debug, PartialEq, Eq)]
 pub struct State {
+    /// The form of its store.
+    pub form: Form,
     pub topology: Topology,
     /// The last finished recovery line, k.
     pub line: u32,
@@ -49,17 +52,11 @@ pub struct State {
     pub channel_counts: [usize; CHANNELS],
 }
 
-/// Taking a body from a channel (document 02, M-101): 31 × (31 × word + wire) +
-/// body, modulo 2^32.
-pub fn taken(word: u32, channel: u32, body: u32) -> u32 {
-    let with_channel = word.wrapping_mul(31).wrapping_add(channel);
-    with_channel.wrapping_mul(31).wrapping_add(body)
-}
-
 impl State {
     /// Idle, words and tags 0, channels empty, every count 0.
-    fn blank(topology: &Topology, line: u32) -> State {
+    fn blank(form: Form, topology: &Topology, line: u32) -> State {
         State {
+            form,
             topology: topology.clone(),
             line,
             phase: Phase::Idle,
@@ -75,40 +72,40 @@ impl State {
     }
 
     /// Document 01's setup. No lost power is considered here.
-    pub fn initialize(topology: &Topology, store: &mut [u32]) -> Result<State, u8> {
+    pub fn initialize(form: Form, topology: &Topology, store: &mut [u32]) -> Result<State, u8> {
         topology.check()?;
-        if store.len() < CELLS {
+        if store.len() < form.cells {
             return Err(6);
         }
         for p in 0..topology.processes {
-            store[store::physical_checkpoint(0, p)] = 0;
-            store[store::message_log(0, p)] = 0;
+            store[form.physical_checkpoint(0, p)] = 0;
+            store[form.message_log(0, p)] = 0;
         }
         for c in 0..topology.channels.len() {
-            store[store::channel_log(0, c)] = 0;
+            store[form.channel_log(0, c)] = 0;
         }
         store[LINE] = 0;
-        Ok(State::blank(topology, 0))
+        Ok(State::blank(form, topology, 0))
     }
 
     /// Document 01's restart: it only reads the store.
-    pub fn recover(topology: &Topology, cells: &[u32]) -> Result<State, u8> {
+    pub fn recover(form: Form, topology: &Topology, cells: &[u32]) -> Result<State, u8> {
         topology.check()?;
-        if cells.len() < CELLS {
+        if cells.len() < form.cells {
             return Err(6);
         }
         let line = cells[LINE];
-        let mut state = State::blank(topology, line);
+        let mut state = State::blank(form, topology, line);
         for p in 0..topology.processes {
-            let log = store::read_log(cells, store::message_log(line, p), MESSAGE_LOG)?;
-            let copy = cells[store::physical_checkpoint(line, p)];
-            let replay = |word, &[body, channel]: &[u32; 2]| taken(word, channel, body);
-            state.words[p] = log.iter().fold(copy, replay);
+            let log = form.message_log(line, p);
+            let log = store::read_log(cells, log, MESSAGE_LOG, form.entry)?;
+            let copy = cells[form.physical_checkpoint(line, p)];
+            state.words[p] = log.into_iter().fold(copy, |word, entry| form.replayed(word, entry));
         }
         for c in 0..topology.channels.len() {
-            let log = store::read_log(cells, store::channel_log(line, c), CHANNEL_LOG)?;
-            let old = |&[body]: &[u32; 1]| Entry::Message { body, tag: false };
-            state.channels[c] = log.iter().map(old).collect();
+            let log = store::read_log(cells, form.channel_log(line, c), CHANNEL_LOG, 1)?;
+            let old = |entry: &[u32]| Entry::Message { body: entry[0], tag: false };
+            state.channels[c] = log.into_iter().map(old).collect();
         }
         Ok(state)
     }

@@ -2,8 +2,8 @@
 //! 12, 13, 10, 14, 9, 11), then its stores, and changes the state only when
 //! nothing can stop it any more.
 
-use crate::state::{taken, Entry, Phase, State, CAPACITY};
-use crate::store::{self, Power, Stop, CELLS, CHANNEL_LOG, LINE, MESSAGE_LOG};
+use crate::state::{Entry, Phase, State, CAPACITY};
+use crate::store::{Power, Stop, CHANNEL_LOG, LINE, MESSAGE_LOG};
 
 /// Document 01's steps 1 to 8, with the fields that each uses.
 #[derive(Clone, Copy, Debug, PartialEq, Eq)]
@@ -92,7 +92,7 @@ fn require(met: bool, refusal: u8) -> Result<(), Stop> {
 impl State {
     /// One call of a step, with the stores that the power lasts for.
     pub fn step(&mut self, step: Step, cells: &mut [u32], budget: u64) -> Answer {
-        let enough = cells.len() >= CELLS;
+        let enough = cells.len() >= self.form.cells;
         let mut power = Power::new(cells, budget);
         let result = require(self.sound(), 15)
             .and_then(|()| require(enough, 6))
@@ -144,7 +144,7 @@ impl State {
         }
         match self.channels[channel].pop_front() {
             Some(Entry::Message { body, .. }) => {
-                self.words[to] = taken(self.words[to], channel as u32, body);
+                self.words[to] = self.form.taken(self.words[to], channel as u32, body);
                 Ok(Outcome::Took(body))
             }
             _ => {
@@ -192,13 +192,14 @@ impl State {
             Rule::CopiedLogs | Rule::UnmarkedLogs => {
                 let count = self.message_counts[to];
                 require(count < MESSAGE_LOG, 11)?;
-                power.append(store::message_log(line, to), count, [body, channel as u32])?;
+                let entry = self.form.logged(channel as u32, body);
+                power.append(self.form.message_log(line, to), count, &entry)?;
                 self.message_counts[to] += 1;
             }
             Rule::ChannelLogs => {
                 let count = self.channel_counts[channel];
                 require(count < CHANNEL_LOG, 11)?;
-                power.append(store::channel_log(line, channel), count, [body])?;
+                power.append(self.form.channel_log(line, channel), count, &[body])?;
                 self.channel_counts[channel] += 1;
             }
             _ => (),
@@ -210,10 +211,10 @@ impl State {
         require(self.phase == Phase::Idle, 12)?;
         require(self.line != u32::MAX, 13)?;
         for p in 0..self.topology.processes {
-            power.put(store::message_log(self.line + 1, p), 0)?;
+            power.put(self.form.message_log(self.line + 1, p), 0)?;
         }
         for c in 0..self.topology.channels.len() {
-            power.put(store::channel_log(self.line + 1, c), 0)?;
+            power.put(self.form.channel_log(self.line + 1, c), 0)?;
         }
         self.message_counts.fill(0);
         self.channel_counts.fill(0);
@@ -224,7 +225,7 @@ impl State {
     fn physical_checkpoint(&mut self, process: usize, power: &mut Power) -> Result<(), Stop> {
         require(process < self.topology.processes, 8)?;
         require(self.phase == Phase::Physical { next: process }, 12)?;
-        power.put(store::physical_checkpoint(self.line + 1, process), self.words[process])?;
+        power.put(self.form.physical_checkpoint(self.line + 1, process), self.words[process])?;
         let next = process + 1;
         if next < self.topology.processes {
             self.phase = Phase::Physical { next };
