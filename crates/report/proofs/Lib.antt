@@ -3,4 +3,5 @@ pub mod Appending
 pub mod Printing
 pub mod Texts
 pub mod HexTexts
+pub mod Changes
 pub mod ExamplesHold

@@ -4,4 +4,3 @@ pub mod Turns
 pub mod Sessions
 pub mod Lines
 pub mod Opening
-pub mod Changes

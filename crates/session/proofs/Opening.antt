@@ -21,8 +21,9 @@ use Rattle.plan.proofs.Readings.{Passes}
 use Rattle.report.specs.Appends.{Appends}
 use Rattle.report.specs.TextBytes.{planRefusedBytes, processBytes, channelBytes, cellBytes}
 use Rattle.report.specs.Text.{planRefusedText, outputText}
+use Rattle.report.specs.Changed.{startStore, changedText}
 use Rattle.report.proofs.Appending.{_then_, at-most}
-use Rattle.session.specs.Drill.{startStore, changedText, drillText}
+use Rattle.session.specs.Drill.{drillText}
 use Rattle.session.specs.Output.{playedBytes, processesText, channelsText, MayRun, Plays, planPlayed}
 use Rattle.session.specs.Serving.{Prints}
 use Rattle.session.proofs.Lines.{report-text}

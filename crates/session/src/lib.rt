@@ -1,6 +1,5 @@
 // The work of the programs `head` and `drill`: one function from the input's bytes to the output's bytes each. They
 // differ only in where a call's budget comes from, in the store at first, and in what is printed of it.
-mod cells;
 mod ending;
 mod play;
 mod request;
@@ -38,7 +37,7 @@ pub fn drill(input: &[u8], out: &mut [u8; OUTPUT_BYTES]) -> usize
     ensures { λ r. ⌜ WholeText (drillText (now (input .entry))) (now (out .entry)) (now (out .exit)) r ⌝ }
 {
     let mut store = [0u32; STORE_CELLS];
-    cells::fill(&mut store);
+    report::cells::fill(&mut store);
     let at = play::play(BudgetSource::Given, input, &mut store, out);
-    cells::changed(&store, out, at)
+    report::cells::changed(&store, out, at)
 }

@@ -6,13 +6,13 @@ use Prim.Native.Nat.{_-_}
 use mathlib.Core.Path.{_∙_, sym}
 use mathlib.Core.Logic.{⊎-elim}
 use Rattle.model.specs.Layout.{storeCells}
 use Rattle.report.specs.TextBytes.{cellBytes}
 use Rattle.report.proofs.Appending.{nothing, at-most}
-use Rattle.session.specs.Drill.{changedLine, changedText}
+use Rattle.report.specs.Changed.{changedLine, changedText}
 use Rattle.report.proofs.Printing.{Appended, none-appended, one-appended, all-appended, kept-length}
-use Rattle.session.proofs.Changes.{same-cell, other-cell}
-use Rattle.session.proofs.cells.changed.Statement.{statement}
-use Rattle.session.proofs.cells.changed.Tie as tie
+use Rattle.report.proofs.Changes.{same-cell, other-cell}
+use Rattle.report.proofs.cells.changed.Statement.{statement}
+use Rattle.report.proofs.cells.changed.Tie as tie
 
 abbrev Inv-loop : tie.InvT-loop
 Inv-loop store out₀ at next₀ i₀ out next i = Appended cellBytes storeCells (changedLine store) out₀ at i out next
@@ -25,7 +25,7 @@ loop-again c =
     let k = c .before in
     let inside = k .before .before in
     let at = inside .before in
-    let store = at .before .before .before .args .store .now in
+    let store = at .before .before .args .store .now in
     let begins = k .start-cell .ensures in
     ⊎-elim
     (λ w.
@@ -44,7 +44,6 @@ returns c = all-appended (c .before .loop .inv) (c .loop-test .left)
 pub changed-spec : {M : Type 1} → statement M
 changed-spec =
     tie.close
-    (tie.spec Inv-loop μ-loop (λ c. none-appended) (λ c. search needs)
-    (λ c. omega (arith, c .before .before .before .before .before .pre)) (λ c κs. search needs) (λ c. search needs)
-    (λ c κs. search needs) (λ c. search needs) (λ c. search needs) loop-again
+    (tie.spec Inv-loop μ-loop (λ c. none-appended) (λ c. search needs) (λ c. search needs) (λ c κs. search needs)
+    (λ c. search needs) (λ c κs. search needs) (λ c. search needs) (λ c. search needs) loop-again
     (λ c. kept-length (c .before .loop .inv)) returns)

@@ -1,4 +1,4 @@
--- Laws of `drill`'s cells: a store that is filled cell by cell, and the line of each that differs.
+-- Laws of a store's cells: a store that is filled cell by cell, and the line of each that differs.
 use Prim.Native.Nat.{ℕ, _+_, _<_, _≤_}
 use mathlib.Core.Path.{_≡_, refl, sym, _∙_}
 use mathlib.Core.List.{List, []}
@@ -9,9 +9,9 @@ use native.Mathlib.Omega.{arith}
 use native.Mathlib.Numerals.{add-one}
 use Rattle.model.specs.Notation.{tabulate}
 use Rattle.model.specs.Layout.{storeCells, cell}
-use Rattle.model.proofs.laws.Lists.{tabulate-more}
+use Rattle.model.proofs.laws.Lists.{tabulate-length, tabulate-more}
 use Rattle.report.specs.Text.{cellText}
-use Rattle.session.specs.Drill.{startCell, startStore, changedLine}
+use Rattle.report.specs.Changed.{startCell, startStore, changedLine}
 
 -- the first i cells hold what they start with: none, one more, all
 pub record Filled (store : List ℕ) (i : ℕ) : Type 0 where
@@ -38,6 +38,11 @@ module _ {store : List ℕ} {i : ℕ} (p : Filled store i) where
   all-filled l =
       let e : i ≡ storeCells = omega (arith, p .within) in
       sym (take-all storeCells store (omega (arith, p .cells))) ∙ rw e at (p .first)
+
+-- the store has its cells
+pub start-length : length startStore ≡ storeCells
+unfolding startStore
+start-length = tabulate-length storeCells startCell
 
 -- a cell's line, if it has one
 module _ (store : List ℕ) (i : ℕ) where

@@ -1,12 +1,13 @@
-// The store's cells in `drill`: what they hold before initialize, and which of them differ from that at the end.
+// The cells of a lent store, for the programs that show them: what they hold before anything is done, and which of them
+// differ from that at the end.
+use crate::cell_line;
 use rules::layout::STORE_CELLS;
 ghost use mathlib.Core.Path.{_≡_};
-ghost use Prim.Native.Nat.{_*_, _<_, _≤_};
-ghost use lib.ListN.{length};
+ghost use Prim.Native.Nat.{_*_, _<_};
 ghost use Rattle.model.specs.Layout.{storeCells};
 ghost use Rattle.report.specs.Appends.{Appends};
 ghost use Rattle.report.specs.TextBytes.{cellBytes};
-ghost use Rattle.session.specs.Drill.{startCell, startStore, changedText};
+ghost use Rattle.report.specs.Changed.{startCell, startStore, changedText};
 
 // 2,654,435,761 × i modulo 2^32.
 fn start_cell(i: usize) -> u32
@@ -17,21 +18,20 @@ fn start_cell(i: usize) -> u32
     (product % 4294967296) as u32
 }
 
-// The store before initialize.
-pub fn fill(store: &mut [u32])
-    requires { ⌜ length (now store) ≡ storeCells ⌝ }
+// The store at first.
+pub fn fill(store: &mut [u32; STORE_CELLS])
     ensures { λ r. ⌜ now (store .exit) ≡ startStore ⌝ }
 {
+    let cells: &mut [u32] = store;
     let mut i: usize = 0;
     while i < STORE_CELLS {
-        store[i] = start_cell(i);
+        cells[i] = start_cell(i);
         i += 1;
     }
 }
 
 // A line for each cell that differs.
-pub fn changed(store: &[u32], out: &mut [u8], at: usize) -> usize
-    requires { ⌜ storeCells ≤ length (now store) ⌝ }
+pub fn changed(store: &[u32; STORE_CELLS], out: &mut [u8], at: usize) -> usize
     ensures { λ r. ⌜ Appends (storeCells * cellBytes) (now (out .entry)) at
         (changedText (now (store .entry))) (now (out .exit)) r ⌝ }
 {
@@ -40,7 +40,7 @@ pub fn changed(store: &[u32], out: &mut [u8], at: usize) -> usize
     while i < STORE_CELLS {
         let value = store[i];
         if value != start_cell(i) {
-            next = report::cell_line(out, next, i as u32, value);
+            next = cell_line(out, next, i as u32, value);
         }
         i += 1;
     }
