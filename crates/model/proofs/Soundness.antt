@@ -263,7 +263,9 @@ initialize-sound T store e =
 
 -- a channel filled from its log is as long as the log's count, which fits
 recovered-length : (T : Topology) (store : List ℕ) → countsFit T store ≡ true → RoomKept T (recoveredChannel T store)
-unfolding restart.countsFit restart.countFits restart.recoveredChannel hasChannel messages form.logged form.bodiesBy form.entriesBy entriesFrom
+unfolding
+    restart.countsFit restart.countFits restart.recoveredChannel hasChannel messages form.logged form.bodiesBy
+    form.entriesBy entriesFrom
 recovered-length T store e c l =
     rw (lt-ltb c (T .channels) l, length-map, length-map, tabulate-length)
     (leb-true _ _ (all-at (T .channels) _ (and-right (allBelow (T .processes) _) _ e) c l))

@@ -54,7 +54,8 @@ unfolding form.slot
 slot-below n a h = omega arith
 
 slot-writes : (n : ℕ) (ws : List Write) → InSlot n ws → Below ws
-slot-writes n ws h = each-map (λ w. Within present n (w .cell)) (λ w. w .cell < storeCells) (λ w. slot-below n (w .cell)) ws h
+slot-writes n ws h =
+    each-map (λ w. Within present n (w .cell)) (λ w. w .cell < storeCells) (λ w. slot-below n (w .cell)) ws h
 
 -- an accepted topology over some store that is long enough
 abbrev some-store : List ℕ

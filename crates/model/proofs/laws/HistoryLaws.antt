@@ -9,7 +9,6 @@ use lib.ListN.{length, take}
 use lib.Seq.{take-length}
 use borrow.Author.Tests.{eq-eqb, ne-eqb}
 use native.Mathlib.Omega.{arith}
-use Rattle.model.specs.declared.Receipt.{Receipt}
 use Rattle.model.specs.Word.{receipt, enter, replay}
 use Rattle.model.specs.History.{Event, Direction, sent, received, isOn, sameDirection, bodiesOn, receiptsOf}
 use Rattle.model.specs.History.{placeOfSend}

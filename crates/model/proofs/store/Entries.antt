@@ -71,7 +71,8 @@ cells-append at (x ∷ xs) ys =
     (cells-append (at + 1) xs ys ∙ ap (λ (a : ℕ). cellWrites (at + 1) xs ++ cellWrites a ys) e)
 
 pub cells-more : (at : ℕ) (vs : List ℕ) (i : ℕ) → i < length vs
-    → cellWrites at (take (i + 1) vs) ≡ cellWrites at (take i vs) ++ (record { cell = at + i; value = getD vs i 0 } ∷ [])
+    → cellWrites at (take (i + 1) vs)
+    ≡ cellWrites at (take i vs) ++ (record { cell = at + i; value = getD vs i 0 } ∷ [])
 unfolding cellWrites
 cells-more at vs i l =
     rw (add-one i, take-suc vs i 0 l)

@@ -16,8 +16,8 @@ use Rattle.model.specs.Check.{Check, _⇒_, firstRefusal}
 use Rattle.model.specs.Topology.{topologyRefusal}
 use Rattle.model.specs.Word.{replayBy}
 use Rattle.model.specs.Form.{Form, cell, Log, messageLog, channelLog, messagePlaces, channelPlaces, places}
-use Rattle.model.specs.Form.{channelEntryCells, channelCells, entryCell, cellsFrom, entriesFrom, receiptIn, bodyIn}
-use Rattle.model.specs.Form.{entryCells, processCells, countCell}
+use Rattle.model.specs.Form.{channelEntryCells, channelCells, entryCell, cellsFrom, entriesFrom, receiptIn}
+use Rattle.model.specs.Form.{bodyIn, entryCells, processCells, countCell}
 use Rattle.model.specs.Restart.{initializeRefusal, recoverRefusal, storedLine, countFits, countsFit}
 use Rattle.model.proofs.laws.Tests.{and-left, and-right}
 use Rattle.model.proofs.laws.Lists.{all-at, all-cong, or-else-none, tabulate-cong, tabulate-more, map-tabulate}

@@ -40,8 +40,8 @@ unfolding restart.restoredBy form.receiptsBy
 restored-same n p k e = rw (e .physical, e .log .entries)
 
 -- where the cells that are read of a log with k entries are kept, the log is the same
-pub kept-log : (st st′ : List ℕ) (n : ℕ) (log : Log) (k : ℕ) → ((a : ℕ) → Upto present n log k a → cell st′ a ≡ cell st a)
-    → SameLog n log k st st′
+pub kept-log : (st st′ : List ℕ) (n : ℕ) (log : Log) (k : ℕ)
+    → ((a : ℕ) → Upto present n log k a → cell st′ a ≡ cell st a) → SameLog n log k st st′
 unfolding form.entriesBy
 kept-log st st′ n log k h =
     record {

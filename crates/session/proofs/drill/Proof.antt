@@ -23,5 +23,5 @@ returns c =
 pub drill-spec : {M : Type 1} → statement M
 drill-spec =
     tie.close
-    (tie.spec (λ c κs. search needs) (λ c. omega (arith, cells (c .before))) (λ c κs. omega (arith, cells (c .before .before)))
-    (λ c κs. search needs) returns)
+    (tie.spec (λ c κs. search needs) (λ c. omega (arith, cells (c .before)))
+    (λ c κs. omega (arith, cells (c .before .before))) (λ c κs. search needs) returns)

@@ -1,7 +1,7 @@
 -- `recovery::log::replay_log` meets its contract. The loop's invariant: the first i receipts have entered the word.
 use borrow.Author.Needs.{needs}
 use native.Mathlib.Omega.{arith}
-use Prim.Native.Nat.{ℕ, _+_, _-_, _≤_}
+use Prim.Native.Nat.{ℕ, _-_, _≤_}
 use mathlib.Core.Path.{_≡_, refl, sym, _∙_}
 use mathlib.Core.List.{List}
 use Rattle.model.specs.Notation.{tabulate}
