@@ -2,7 +2,7 @@
 ghost use mathlib.Core.Path.{_≡_};
 ghost use Prim.Native.Nat.{_≤_};
 ghost use lib.ListN.{length};
-ghost use Rattle.model.specs.Record.{lowestFirst, readByte, readBody};
+ghost use Rattle.model.specs.Record.{lowestFirst, bodyBytes, readByte, readBody};
 ghost use Rattle.record.specs.Field.{Reads, unlessZero};
 
 pub const KIND: u8 = 1;
@@ -52,6 +52,17 @@ pub fn word(a: u8, b: u8, c: u8, d: u8) -> u32
     ensures { λ r. ⌜ r ≡ lowestFirst a b c d ⌝ }
 {
     a as u32 + 256 * (b as u32) + 65536 * (c as u32) + 16777216 * (d as u32)
+}
+
+// Its bytes.
+pub fn word_bytes(word: u32) -> [u8; 4]
+    ensures { λ r. ⌜ r ≡ bodyBytes word ⌝ }
+{
+    let b0 = (word % 256) as u8;
+    let b1 = (word / 256 % 256) as u8;
+    let b2 = (word / 65536 % 256) as u8;
+    let b3 = (word / 16777216 % 256) as u8;
+    [b0, b1, b2, b3]
 }
 
 // The body.

@@ -8,6 +8,7 @@ use crate::pack::with_channel;
 use crate::pack::with_process;
 use crate::parse::parse;
 pub use field::word;
+pub use field::word_bytes;
 use model::Record;
 use model::Refusal;
 use model::Step;

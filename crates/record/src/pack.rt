@@ -5,6 +5,7 @@ use crate::field::BODY;
 use crate::field::CHANNEL;
 use crate::field::KIND;
 use crate::field::PROCESS;
+use crate::field::word_bytes;
 ghost use mathlib.Core.Path.{_≡_};
 ghost use Rattle.model.specs.Record.{writeFields};
 ghost use Rattle.record.specs.Kind.{fields};
@@ -14,16 +15,13 @@ ghost use Rattle.record.specs.Written.{holding};
 pub fn with_channel(kind: u8, channel: u8, body: u32) -> Written
     ensures { λ r. ⌜ r ≡ holding (writeFields (fields kind 0 channel body)) ⌝ }
 {
-    let b0 = (body % 256) as u8;
-    let b1 = (body / 256 % 256) as u8;
-    let b2 = (body / 65536 % 256) as u8;
-    let b3 = (body / 16777216 % 256) as u8;
+    let b = word_bytes(body);
     if channel == 0 {
         if body == 0 {
             return with_process(kind, 0);
         }
         return Written {
-            bytes: [KIND + BODY, kind, b0, b1, b2, b3, 0],
+            bytes: [KIND + BODY, kind, b[0], b[1], b[2], b[3], 0],
             count: 6,
         };
     }
@@ -34,7 +32,7 @@ pub fn with_channel(kind: u8, channel: u8, body: u32) -> Written
         };
     }
     Written {
-        bytes: [KIND + CHANNEL + BODY, kind, channel, b0, b1, b2, b3],
+        bytes: [KIND + CHANNEL + BODY, kind, channel, b[0], b[1], b[2], b[3]],
         count: LONGEST,
     }
 }
