@@ -20,11 +20,13 @@ pub fn at_most(store: &[u32], first: u32, stride: u32, n: u8, limit: u8) -> bool
     if store.len() <= from + step * ((n - 1) as usize) {
         return false;
     }
-    let mut i: usize = 0;
-    while i < n as usize {
-        if (limit as u32) < store[from + step * i] {
+    let mut at = from;
+    let mut i: u8 = 0;
+    while i < n {
+        if (limit as u32) < store[at] {
             return false;
         }
+        at += step;
         i += 1;
     }
     true

@@ -1,5 +1,5 @@
 -- `cells::at_most` meets its contract: where the last cell is in the store, all are. The loop's invariant: each cell
--- before the i-th holds at most the limit.
+-- before the i-th holds at most the limit, and the running index stands at the i-th.
 use Prim.Native.Nat.{ℕ, _+_, _-_, _*_, _<_, _≤_}
 use mathlib.Core.Path.{_≡_, refl, sym}
 use mathlib.Core.Bool.{Bool, true, _&&_}
@@ -7,7 +7,7 @@ use mathlib.Core.List.{List}
 use borrow.Author.Needs.{needs}
 use borrow.Author.Tests.{lt-leb, le-leb, lt-ltb, le-ltb}
 use native.Mathlib.Omega.{arith}
-use native.Mathlib.Nat.{mul-le-mul-left}
+use native.Mathlib.Nat.{mul-suc, mul-le-mul-left}
 use mir.Syntax.{w8, w32}
 use mir.Val.{Fits}
 use lib.ListN.{length}
@@ -22,11 +22,17 @@ abbrev fits : List ℕ → ℕ → ℕ → ℕ → ℕ → Bool
 fits store first stride limit i =
     ltb (first + stride * i) (length store) && leb (cell store (first + stride * i)) limit
 
+-- the next cell is the i-th, and those before it pass
+pub record Passed (store : List ℕ) (first stride n limit at i : ℕ) : Type 0 where
+  pub within : i ≤ n
+  pub next : at ≡ first + stride * i
+  pub pass : allBelow i (fits store first stride limit) ≡ true
+
 abbrev Inv-loop : tie.InvT-loop
-Inv-loop store first stride n limit from step i₀ i = (i ≤ n) × (allBelow i (fits store first stride limit) ≡ true)
+Inv-loop store first stride n limit from step at₀ i₀ at i = Passed store first stride n limit at i
 
 abbrev μ-loop : tie.MeasureT-loop
-μ-loop store first stride n limit from step i₀ i = n - i
+μ-loop store first stride n limit from step at₀ i₀ at i = n - i
 
 -- the last cell's number is no larger than a machine word
 last-low : (s : tie.Start Inv-loop μ-loop) → s .args .first + s .args .stride * (s .args .n - 1) < 4294967296 * 256
@@ -42,19 +48,18 @@ last-low s =
 abbrev start : tie.In-loop Inv-loop μ-loop → tie.Start Inv-loop μ-loop
 start c = c .before .before .before .before
 
+before : (c : tie.In-loop Inv-loop μ-loop)
+    → start c .args .stride * c .before .loop .i ≤ start c .args .stride * (start c .args .n - 1)
+before c =
+    let low : c .before .loop .i ≤ start c .args .n - 1 = omega (arith, c .loop-test .taken) in
+    mul-le-mul-left (start c .args .stride) low
+
 inside : (c : tie.In-loop Inv-loop μ-loop)
     → start c .args .first + start c .args .stride * c .before .loop .i < length (start c .args .store .now)
-inside c =
-    let a = start c .args in
-    let low : c .before .loop .i ≤ a .n - 1 = omega (arith, c .loop-test .taken) in
-    omega (arith, mul-le-mul-left (a .stride) low, c .before .before .if2 .left)
+inside c = omega (arith, before c, c .before .before .if2 .left)
 
-low : (c : tie.In-loop Inv-loop μ-loop)
-    → start c .args .first + start c .args .stride * c .before .loop .i < 4294967296 * 256
-low c =
-    let a = start c .args in
-    let before : c .before .loop .i ≤ a .n - 1 = omega (arith, c .loop-test .taken) in
-    omega (arith, mul-le-mul-left (a .stride) before, last-low (start c))
+low : (c : tie.In-loop Inv-loop μ-loop) → c .before .loop .at < 4294967296 * 256
+low c = omega (arith, before c, last-low (start c), c .before .loop .inv .next)
 
 returns : tie.Need-returns Inv-loop μ-loop
 unfolding allBelow
@@ -68,7 +73,7 @@ returns-2 c =
 
 loop-holds : tie.Need-loop-holds Inv-loop μ-loop
 unfolding allBelow
-loop-holds c = (omega arith, refl)
+loop-holds c = record { within = omega arith; next = omega arith; pass = refl }
 
 returns-3 : tie.Need-returns-3 Inv-loop μ-loop
 unfolding cell
@@ -76,24 +81,35 @@ returns-3 c =
     let b = c .before .before in
     let a = start b .args in
     let f = fits (a .store .now) (a .first) (a .stride) (a .limit) in
-    sym (all-but (a .n) (b .before .loop .i) f (b .loop-test .taken)
-    (rw (lt-ltb _ _ (inside b)) (lt-leb _ _ (c .if3 .taken))))
+    let over = rw (b .before .loop .inv .next) at (c .if3 .taken) in
+    sym (all-but (a .n) (b .before .loop .i) f (b .loop-test .taken) (rw (lt-ltb _ _ (inside b)) (lt-leb _ _ over)))
+
+add-at : tie.Need-add-at Inv-loop μ-loop
+add-at c =
+    let b = c .before .before in
+    let stride : Fits w32 (start b .args .stride) = search needs in
+    omega (arith, low b)
 
 loop-again : tie.Need-loop-again Inv-loop μ-loop
 unfolding cell
 loop-again c =
     let b = c .before .before in
     let a = start b .args in
-    let f = fits (a .store .now) (a .first) (a .stride) (a .limit) in (
-      omega arith,
-      all-next (b .before .loop .i) f (b .before .loop .inv .1)
-          (rw (lt-ltb _ _ (inside b)) (le-leb _ _ (c .if3 .left))),
-    )
+    let i = b .before .loop .i in
+    let inv = b .before .loop .inv in
+    let f = fits (a .store .now) (a .first) (a .stride) (a .limit) in
+    let most = rw (inv .next) at (c .if3 .left) in
+    record {
+      within = omega arith;
+      next = omega (arith, inv .next, mul-suc (a .stride) i);
+      pass = all-next i f (inv .pass) (rw (lt-ltb _ _ (inside b)) (le-leb _ _ most));
+    }
 
 returns-4 : tie.Need-returns-4 Inv-loop μ-loop
 returns-4 c =
-    let e : c .before .loop .i ≡ c .before .before .before .before .args .n = omega arith in
-    sym (rw e at (c .before .loop .inv .1))
+    let inv = c .before .loop .inv in
+    let e : c .before .loop .i ≡ c .before .before .before .before .args .n = omega (arith, inv .within) in
+    sym (rw e at (inv .pass))
 
 pub at-most-spec : {M : Type 1} → statement M
 at-most-spec =
@@ -109,11 +125,10 @@ at-most-spec =
     returns-2
     loop-holds
     (λ c. omega (arith, low c))
-    (λ c. omega (arith, low c))
-    (λ c. omega (arith, low c))
-    (λ c. inside (c .before))
+    (λ c. rw (c .before .before .loop .inv .next) (inside (c .before)))
     returns-3
-    (λ c. omega arith)
+    add-at
+    (λ c. search needs)
     (λ c. omega arith)
     loop-again
     returns-4)
