@@ -1,6 +1,7 @@
 //! The cases of document 01, tried on the reference itself, with the refusals
 //! that no input of the programs can bring about; and what `console` may print.
 
+use crate::carries;
 use crate::directed::{LISTING, LISTING_OUTPUT};
 use crate::verdicts;
 use reference::forms::NEW;
@@ -14,7 +15,7 @@ type Case = (&'static str, fn() -> bool);
 
 /// Tries every case: how many there are, or the names of those that fail.
 pub fn all() -> Result<usize, Vec<&'static str>> {
-    let cases: [Case; 22] = [
+    let cases: [Case; 30] = [
         ("the listing", listing),
         ("one board gives line 1", one_board),
         ("8th entry passes, 9th send is 9; empty wire is 10", wire_full),
@@ -37,6 +38,14 @@ pub fn all() -> Result<usize, Vec<&'static str>> {
         ("lines of console", verdicts::lines),
         ("right answers of console", verdicts::right),
         ("wrong answers of console", verdicts::wrong),
+        ("words by the old rule", carries::old_words),
+        ("the old store's layout", carries::old_layout),
+        ("demand 3 of runs by the old rules", carries::old_runs),
+        ("a store to be carried: order of refusals", carries::refusals),
+        ("a target with further cells", carries::longer_target),
+        ("a store carried by hand", carries::right),
+        ("stores carried wrongly", carries::wrong),
+        ("stores carried back wrongly", carries::wrong_way_back),
     ];
     let failed: Vec<_> =
         cases.iter().filter(|(_, holds)| !holds()).map(|(name, _)| *name).collect();
@@ -95,7 +104,7 @@ const fn note(channel: usize) -> Step {
 }
 
 fn listing() -> bool {
-    program::run(Program::Head, LISTING, &mut Unwatched) == LISTING_OUTPUT
+    program::run(Program::Head, LISTING, &mut Unwatched) == LISTING_OUTPUT.as_bytes()
 }
 
 fn one_board() -> bool {

@@ -185,7 +185,7 @@ fn rounds(number: usize) -> Vec<Call> {
 
 /// Two rounds on the largest plan in which every message log gets 64 bodies and
 /// every channel log 8: every cell of the store is written. Then a recover.
-fn full_logs() -> Vec<Call> {
+pub fn full_logs() -> Vec<Call> {
     let topology = plans::largest();
     let mut calls = Vec::new();
     for round in 0..2 {
@@ -263,7 +263,7 @@ fn begin_cuts(lists: &mut Vec<List>) {
 
 /// A round on a pair with a take for each log: in copying, before the mark and
 /// after it. A take that is cut is made up for before the notes.
-fn logging_round() -> Vec<Call> {
+pub fn logging_round() -> Vec<Call> {
     let send = |channel, body| full(Step::Send { channel, body });
     let receive = |channel| full(Step::Receive { channel });
     let mut round: Vec<Call> = copies(2).collect();

@@ -1,5 +1,6 @@
 //! What a run must have seen, and how often it saw it.
 
+use crate::sights;
 use reference::program::Program;
 use std::collections::BTreeMap;
 
@@ -42,10 +43,10 @@ pub const TWELVES: [&str; 13] = [
     "give up when idle",
 ];
 
-/// Refusals that no input can bring about: 6, the store has 5,313 cells; 13, an
-/// input is too short for so many rounds; 14, 15 and 16, no reached state or
-/// store is like that.
-pub const NEVER: [u64; 5] = [6, 13, 14, 15, 16];
+/// Refusals of a call that no input can bring about: 6, the store has 5,313
+/// cells; 13, an input is too short for so many rounds; 14, 15 and 16, no
+/// reached state or store is like that.
+const NEVER: [u64; 5] = [6, 13, 14, 15, 16];
 
 #[derive(Default)]
 pub struct Seen {
@@ -58,6 +59,8 @@ pub struct Seen {
     /// they leave out.
     pub parts: u64,
     pub left_out: u64,
+    /// Stores that were carried to the other form and back.
+    pub carried: u64,
 }
 
 impl Seen {
@@ -69,12 +72,13 @@ impl Seen {
         self.counts.get(&(program, sight)).copied().unwrap_or(0)
     }
 
-    /// Prints what was found to hold of calls and of parts.
+    /// Prints what was found to hold of calls, of parts and of stores.
     pub fn tell_held(&self) {
         let (demands, beyond) = (self.demands, self.beyond);
         println!("demand 3 held after {demands} calls, {beyond} of them past its premise");
         let (parts, left_out) = (self.parts, self.left_out);
         println!("M-100's definition held of {parts} parts, which leave out {left_out} calls");
+        println!("restarts agreed on {} stores carried there and back", self.carried);
     }
 
     /// Prints every count of these programs; the number of sights required, or
@@ -84,7 +88,8 @@ impl Seen {
         let mut required_in_all = 0;
         for program in programs {
             let required = required(program);
-            required_in_all += required.len() + NEVER.len();
+            let never = if program == Program::Converter { 0 } else { NEVER.len() };
+            required_in_all += required.len() + never;
             for sight in &required {
                 let count = self.of(program, *sight);
                 println!("seen {}: {count}", name(program, *sight));
@@ -111,10 +116,11 @@ fn name(program: Program, (group, what, number): Sight) -> String {
         Program::Head => "head",
         Program::Drill => "drill",
         Program::Console => "console",
+        Program::Converter => "converter",
     };
     match group {
-        "plan refused" => format!("{program} {group} {number}"),
-        "refused" => format!("{program} {group} {number} ({what})"),
+        _ if group.ends_with("plan refused") => format!("{program} {group} {number}"),
+        _ if group.ends_with("refused") => format!("{program} {group} {number} ({what})"),
         "cut" => format!("{program} {group} {number} ({what})"),
         _ => format!("{program} {group} ({what})"),
     }
@@ -122,14 +128,13 @@ fn name(program: Program, (group, what, number): Sight) -> String {
 
 /// Everything that a run must see.
 fn required(program: Program) -> Vec<Sight> {
-    let mut sights = refusals();
-    sights.push(("input", "longer than is taken", 0));
-    match program {
-        Program::Head => sights.extend(calls()),
-        Program::Drill => sights.extend(calls().into_iter().chain(cuts())),
-        Program::Console => sights.extend(reductions()),
-    }
-    sights
+    let asked = match program {
+        Program::Head => [refusals(), calls()].concat(),
+        Program::Drill => [refusals(), calls(), cuts()].concat(),
+        Program::Console => [refusals(), reductions(), sights::required()].concat(),
+        Program::Converter => [nothing(), sights::required()].concat(),
+    };
+    [vec![("input", "longer than is taken", 0)], asked].concat()
 }
 
 /// Every refusal of a plan, of bytes, and of a call; for `console` the call is
@@ -192,4 +197,9 @@ fn reductions() -> Vec<Sight> {
     let places = ["the 256th call", "a call before the last"];
     sights.extend(places.map(|what| ("refused at", what, 0)));
     sights
+}
+
+/// Inputs for which `converter` prints nothing, besides those that it refuses.
+fn nothing() -> Vec<Sight> {
+    ["no input", "another first byte"].map(|what| ("nothing asked", what, 0)).to_vec()
 }

@@ -1,6 +1,8 @@
 //! Makes a failing input smaller: whole calls go first, then channels and
-//! processes with all that speaks of them, then single bytes.
+//! processes with all that speaks of them, then single bytes. A store to be
+//! carried is another matter (`simplify`).
 
+use crate::simplify;
 use crate::walk::{encode, Call};
 use reference::console::REDUCE;
 use reference::program::{read_call, Program};
@@ -106,6 +108,9 @@ pub struct Search<'a> {
 impl Search<'_> {
     /// The smallest failing input found.
     pub fn smallest(&mut self, bytes: &[u8]) -> Vec<u8> {
+        if let Some(simplest) = simplify::simplest(self, bytes) {
+            return simplest;
+        }
         let mut best = bytes.to_vec();
         loop {
             let before = best.len();
@@ -124,7 +129,7 @@ impl Search<'_> {
     }
 
     /// Whether it fails; none where the time is up.
-    fn try_one(&mut self, bytes: &[u8]) -> Option<bool> {
+    pub fn try_one(&mut self, bytes: &[u8]) -> Option<bool> {
         (Instant::now() < self.until).then(|| (self.fails)(bytes))
     }
 

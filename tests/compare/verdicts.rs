@@ -25,7 +25,7 @@ pub fn lines() -> bool {
     let answers: [(&[u8], &str); 12] = [
         (b"", "refused 7\n"),
         (b"\x00\x01\x00", "refused 7\n"),
-        (b"\x02\x01\x00", "refused 7\n"),
+        (b"\x04\x01\x00", "refused 7\n"),
         (b"\xFF", "refused 7\n"),
         (b"\x01", "plan refused 7\n"),
         (b"\x01\x01", "plan refused 7\n"),

@@ -37,6 +37,12 @@ impl Style {
         Style { weights, cuts, recovers: rng.pick(&[100, 100, 80, 30]).unwrap() }
     }
 
+    /// Gets rounds on, and seldom loses power.
+    pub fn driving(rng: &mut Rng) -> Style {
+        let cuts = rng.pick(&[0, 1, 3]).unwrap();
+        Style { weights: [14, 16, 60, 2, 1, 0, 0], cuts, recovers: 100 }
+    }
+
     /// Fills logs and channels again and again, and loses no power.
     pub fn bursting() -> Style {
         Style { weights: [10, 10, 20, 12, 1, 0, 0], cuts: 0, recovers: 0 }
@@ -92,8 +98,8 @@ impl<'a> Walk<'a> {
     /// One call, with a budget that suits it or, at times, one that doesn't.
     fn call(&mut self, record: Record) {
         let budget = match self.program {
-            Program::Head | Program::Console => u32::MAX,
             Program::Drill => self.budget(record),
+            _ => u32::MAX,
         };
         let answer = call(&mut self.state, &mut self.store, record, u64::from(budget));
         self.calls.push((budget, record));

@@ -1,6 +1,7 @@
 //! The program `console` (issue 11, item 4): bytes in, bytes out. The first
-//! byte says what is asked, and the only thing asked so far is M-100's part.
+//! byte says what is asked: M-100's part, or a store carried by M-102.
 
+use crate::migrate::{self, refused};
 use crate::program::INPUT;
 use crate::record::{self, Record};
 use crate::reduce::RefusedList;
@@ -16,10 +17,6 @@ pub struct Question<'a> {
     plan: &'a [u8],
     calls: Vec<&'a [u8]>,
     pub list: RefusedList,
-}
-
-fn refused(number: u8) -> String {
-    format!("refused {number}\n")
 }
 
 impl Question<'_> {
@@ -68,6 +65,9 @@ pub fn hexadecimal(bytes: &[u8]) -> String {
 
 /// The whole output for an input.
 pub fn run(input: &[u8]) -> String {
+    if let [migrate::UPGRADE | migrate::DOWNGRADE, ..] = input {
+        return migrate::text(input);
+    }
     match Question::read(input) {
         Ok(question) => question.text(&question.list.reduce()),
         Err(line) => line,

@@ -1,12 +1,13 @@
 //! An implementation of document 01, and of what document 02 has asked for so
 //! far, in ordinary Rust, written from the papers alone. The comparison holds
-//! the programs `head`, `drill` and `console` against it.
+//! the programs `head`, `drill`, `console` and `converter` against it.
 //!
 //! Names are the field's; each definition says which word of document 01 it is.
 
 pub mod console;
 pub mod forms;
 pub mod history;
+pub mod migrate;
 pub mod program;
 pub mod record;
 pub mod reduce;

@@ -1,8 +1,9 @@
 //! The programs `head` (document 01) and `drill` (issue 4, item 4): bytes in,
-//! bytes out. `console` stands in its own file.
+//! bytes out. `console` and `converter` stand in files of their own.
 
 use crate::console;
 use crate::forms::NEW;
+use crate::migrate;
 use crate::record::{self, Record};
 use crate::state::State;
 use crate::steps::{Answer, Outcome};
@@ -19,8 +20,11 @@ pub enum Program {
     Head,
     /// Each record is preceded by its write budget, and the store is printed.
     Drill,
-    /// A byte that says what is asked, then records alone; full power.
+    /// A byte that says what is asked, then records alone; full power. Or a
+    /// plan and a store, for one of the other form.
     Console,
+    /// As `console` where it is asked for a store; its cells are printed as bytes.
+    Converter,
 }
 
 /// Looks on while a program runs.
@@ -44,11 +48,11 @@ pub fn rubbish(cells: usize) -> Vec<u32> {
 /// A call's write budget, the record, and the bytes after it; or 7.
 pub fn read_call(program: Program, bytes: &[u8]) -> Result<(u64, Record, &[u8]), u8> {
     let (budget, bytes) = match program {
-        Program::Head | Program::Console => (u64::MAX, bytes),
         Program::Drill => {
             let (budget, bytes) = bytes.split_first_chunk::<4>().ok_or(7)?;
             (u64::from(u32::from_le_bytes(*budget)), bytes)
         }
+        _ => (u64::MAX, bytes),
     };
     let (record, rest) = record::read(bytes)?;
     Ok((budget, record, rest))
@@ -72,11 +76,13 @@ pub fn call(state: &mut State, store: &mut [u32], record: Record, budget: u64) -
     state.step(step, store, budget)
 }
 
-/// The whole output for an input. Nobody looks on while `console` runs.
-pub fn run(program: Program, input: &[u8], watch: &mut dyn Watch) -> String {
+/// The whole output for an input. Nobody looks on while `console` or
+/// `converter` runs.
+pub fn run(program: Program, input: &[u8], watch: &mut dyn Watch) -> Vec<u8> {
     match program {
-        Program::Head | Program::Drill => run_calls(program, input, watch),
-        Program::Console => console::run(input),
+        Program::Head | Program::Drill => run_calls(program, input, watch).into_bytes(),
+        Program::Console => console::run(input).into_bytes(),
+        Program::Converter => migrate::bytes(input),
     }
 }
 
@@ -144,8 +150,8 @@ fn print_state(text: &mut String, state: &State) {
     }
 }
 
-/// Each cell that differs from its value before initialize.
-fn print_store(text: &mut String, store: &[u32]) {
+/// Each cell that differs from what it held before.
+pub fn print_store(text: &mut String, store: &[u32]) {
     for (cell, (now, before)) in store.iter().zip(rubbish(store.len())).enumerate() {
         if *now != before {
             let _ = writeln!(text, "cell {cell} {now}");
@@ -157,6 +163,6 @@ fn print_store(text: &mut String, store: &[u32]) {
 pub fn main(program: Program) -> io::Result<()> {
     let mut input = Vec::new();
     io::stdin().lock().take(INPUT as u64).read_to_end(&mut input)?;
-    let text = run(program, &input, &mut Unwatched);
-    io::Write::write_all(&mut io::stdout().lock(), text.as_bytes())
+    let output = run(program, &input, &mut Unwatched);
+    io::Write::write_all(&mut io::stdout().lock(), &output)
 }

@@ -21,16 +21,21 @@ fn run(program: &str, input: &[u8]) -> Result<String, String> {
     String::from_utf8(output).map_err(|error| error.to_string())
 }
 
+fn run_reference(program: Program, input: &[u8]) -> Result<String, String> {
+    let output = program::run(program, input, &mut Unwatched);
+    String::from_utf8(output).map_err(|error| error.to_string())
+}
+
 fn reference_head(input: &[u8]) -> Result<String, String> {
-    Ok(program::run(Program::Head, input, &mut Unwatched))
+    run_reference(Program::Head, input)
 }
 
 fn reference_drill(input: &[u8]) -> Result<String, String> {
-    Ok(program::run(Program::Drill, input, &mut Unwatched))
+    run_reference(Program::Drill, input)
 }
 
 fn reference_console(input: &[u8]) -> Result<String, String> {
-    Ok(program::run(Program::Console, input, &mut Unwatched))
+    run_reference(Program::Console, input)
 }
 
 const REFERENCE: [Side; 3] = [

@@ -1,8 +1,8 @@
 -- Laws of the answer to a reduction: each line in its order, and the lines of a part.
 use Prim.Native.Nat.{ℕ, _+_, _-_, _<_, _≤_}
-use mathlib.Core.Path.{_≡_, refl, sym, ap, ap₂, subst, _∙_}
+use mathlib.Core.Path.{_≡_, sym, ap, ap₂, subst, _∙_}
 use mathlib.Core.Bool.{true, false}
-use mathlib.Core.List.{List, [], _++_}
+use mathlib.Core.List.{List, _++_}
 use mathlib.Core.Option.{none, some}
 use lib.ListN.{length, getD, take, drop, length-take}
 use lib.Dec.{leb}
@@ -34,6 +34,7 @@ use Rattle.operator.specs.Console.{soughtAnswer, listAnswer, planAnswer,
 use Rattle.operator.specs.ConsoleText.{keptLine, partText, partBytes, planBytes, answerText}
 use Rattle.operator.specs.Lists.{callsIn, brokenOff, ReadsList}
 use Rattle.operator.specs.Printing.{Answers}
+use Rattle.operator.proofs.Lines.{plan-line, line}
 
 -- a list of the code is as long as its count
 count-is : (list : CallList) → length (listed list) ≡ list .count
@@ -112,24 +113,22 @@ answered bytes passes T plan x read whole-list s e =
 module _ (bytes : List ℕ) {before after : List ℕ} {r : ℕ} where
   pub answers-plan : {n : ℕ} → planRefusal bytes ≡ some n
       → Appends planRefusedBytes before 0 (planRefusedText n) after r → Answers (reduction bytes) before after r
-  unfolding reduction planAnswer answerText
-  answers-plan e t = rw e (record { part = []; allowed = refl; text = at-most t (omega arith) })
+  unfolding reduction planAnswer
+  answers-plan e t = rw e (plan-line t)
 
   -- past the plan
   module _ (passes : planRefusal bytes ≡ none) where
     pub answers-broken : brokenOff (records bytes) ≡ true → Appends refusedBytes before 0 (refusedText 7) after r
         → Answers (reduction bytes) before after r
-    unfolding reduction planAnswer listAnswer answerText
-    answers-broken b t = rw (passes, b) (record { part = []; allowed = refl; text = at-most t (omega arith) })
+    unfolding reduction planAnswer listAnswer
+    answers-broken b t = rw (passes, b) (line t)
 
     module _ {T : Topology} (plan : T ≡ planOf bytes) (x : ListRead) (read : ReadsList (records bytes) x)
         (whole-list : brokenOff (records bytes) ≡ false) where
       pub answers-refused : {n : ℕ} → sought T (listed (x .list)) ≡ refuses n
           → Appends refusedBytes before 0 (refusedText n) after r → Answers (reduction bytes) before after r
-      unfolding soughtAnswer answerText
-      answers-refused e t =
-          rw (answered bytes passes T plan x read whole-list _ e)
-          (record { part = []; allowed = refl; text = at-most t (omega arith) })
+      unfolding soughtAnswer
+      answers-refused e t = rw (answered bytes passes T plan x read whole-list _ e) (line t)
 
       pub answers-part : {f : Failure} {part own middle : List ℕ} {at : ℕ}
           → sought T (listed (x .list)) ≡ finds f → Smallest T (listed (x .list)) f part

@@ -1,6 +1,5 @@
 -- The program `console`, as data: what is asked, and what is answered.
 use Prim.Native.Nat.{ℕ}
-use mathlib.Core.Path.{_≡_}
 use mathlib.Core.Bool.{Bool, true, false, cond}
 use mathlib.Core.List.{List, [], _∷_}
 use mathlib.Core.Option.{Option, none, some}
@@ -9,16 +8,14 @@ use lib.Dec.{eqb}
 use Rattle.model.specs.declared.Topology.{Topology}
 use Rattle.model.specs.declared.Record.{Record}
 use Rattle.model.specs.Program.{inputBytes, planOf, planLength, planRefusal}
-use Rattle.model.specs.CallList.{Failure}
-use Rattle.model.specs.Reduction.{Sought, refuses, finds, sought, Smallest}
+use Rattle.model.specs.Reduction.{Sought, refuses, finds, sought}
+use Rattle.report.specs.Changed.{startStore}
+use Rattle.operator.specs.declared.Request.{Request}
+use Rattle.operator.specs.declared.Request.the-variants.{Reduction, Carry, Unknown}
+use Rattle.operator.specs.declared.carry.Direction.the-variants.{Upgrade, Downgrade}
+use Rattle.operator.specs.Answer.{Answer, planRefused, refused, reduced}
+use Rattle.operator.specs.Carrying.{sourceForm, targetForm, carrying}
 use Rattle.operator.specs.Lists.{callsIn, brokenOff}
-
--- an answer: a line alone, or the part of a list that matters, of which the plan's bytes, the plan, the list's calls
--- and its first failure are fixed
-pub data Answer : Type 0 where
-  planRefused : ℕ → Answer
-  refused : ℕ → Answer
-  reduced : List ℕ → Topology → List Record → Failure → Answer
 
 -- "Otherwise one line, the first of these that applies": last, "`refused 18`; `refused 17`"
 unfoldable pub soughtAnswer : List ℕ → Topology → List Record → Sought → Answer
@@ -41,21 +38,30 @@ planAnswer none bytes =
 unfoldable pub reduction : List ℕ → Answer
 reduction bytes = planAnswer (planRefusal bytes) bytes
 
--- "the first of them says what is asked": 1 is the part of a list that matters
+-- "the first of them says what is asked": 1 is the part of a list that matters, 2 a store carried to the new form, and
+-- 3 one carried back
 abbrev pub reductionAsked : ℕ
 reductionAsked = 1
 
--- "No input, or a first byte that asks nothing known, prints `refused 7`."
-unfoldable pub answerTo : List ℕ → Answer
-answerTo [] = refused 7
-answerTo (b ∷ bytes) = cond (eqb b reductionAsked) (reduction bytes) (refused 7)
+abbrev pub upgradeAsked : ℕ
+upgradeAsked = 2
+
+abbrev pub downgradeAsked : ℕ
+downgradeAsked = 3
+
+unfoldable pub askedIn : List ℕ → Request
+askedIn [] = Unknown
+askedIn (b ∷ bytes) =
+    cond (eqb b reductionAsked) Reduction
+    (cond (eqb b upgradeAsked) (Carry Upgrade) (cond (eqb b downgradeAsked) (Carry Downgrade) Unknown))
+
+-- "No input, or a first byte that asks nothing known, prints `refused 7`." What a store is carried into "starts as cell
+-- i = 2,654,435,761 × i modulo 2^32, long enough".
+unfoldable pub answerTo : Request → List ℕ → Answer
+answerTo Reduction bytes = reduction bytes
+answerTo (Carry d) bytes = carrying (sourceForm d) (targetForm d) bytes startStore
+answerTo Unknown bytes = refused 7
 
 -- "it takes the first 65,536 bytes of standard input"
 unfoldable pub console : List ℕ → Answer
-console input = answerTo (take inputBytes input)
-
--- the parts that may stand in an answer: a smallest one, and none in a line alone
-abbrev pub PartIn : Answer → List ℕ → Type 0
-PartIn (planRefused n) part = part ≡ []
-PartIn (refused n) part = part ≡ []
-PartIn (reduced plan T calls f) part = Smallest T calls f part
+console input = let bytes : List ℕ = take inputBytes input in answerTo (askedIn bytes) (drop 1 bytes)

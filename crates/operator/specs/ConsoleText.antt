@@ -1,19 +1,22 @@
 -- The whole output of `console`, as bytes, and its promise.
-use Prim.Native.Nat.{ℕ, _+_, _-_, _*_}
+use Prim.Native.Nat.{ℕ, _+_, _-_, _*_, max}
 use mathlib.Core.List.{List, _++_}
 use lib.ListN.{length, getD}
 use Rattle.model.specs.declared.Record.{Record}
 use Rattle.model.specs.declared.Record.the-variants.{Recover}
 use Rattle.model.specs.Notation.{concatBelow}
 use Rattle.model.specs.Topology.{channelLimit}
+use Rattle.model.specs.Layout.{storeCells}
 use Rattle.model.specs.Record.{writeRecord}
 use Rattle.model.specs.CallList.{listLimit}
 use Rattle.record.specs.Written.{longest}
 use Rattle.report.specs.Appends.{WholeText}
 use Rattle.report.specs.Hex.{planLineText, keptText, lastText, refusedText}
-use Rattle.report.specs.Text.{planRefusedText}
-use Rattle.report.specs.TextBytes.{planLineBytes, keptBytes, lastBytes}
-use Rattle.operator.specs.Console.{Answer, planRefused, refused, reduced, console, PartIn}
+use Rattle.report.specs.Text.{chars, planRefusedText}
+use Rattle.report.specs.Changed.{changedText}
+use Rattle.report.specs.TextBytes.{planLineBytes, keptBytes, lastBytes, cellBytes}
+use Rattle.operator.specs.Answer.{Answer, planRefused, refused, reduced, carried, PartIn}
+use Rattle.operator.specs.Console.{console}
 
 -- the line of a kept call, and of the last one, which is refused with n: a call's number in the list counts from 1
 abbrev pub keptLine : (ℕ → Record) → ℕ → List ℕ
@@ -28,11 +31,16 @@ partText call part n =
     concatBelow (length part - 1) (λ i. keptLine call (getD part i 0))
     ++ lastLine call (getD part (length part - 1) 0) n
 
--- "a line with the plan's bytes", and the part; or one line
+-- "It prints `done`, then a line `cell i v` for each cell that differs from its start, rising"
+abbrev pub doneText : List ℕ
+doneText = chars "done\n"
+
+-- "a line with the plan's bytes", and the part; the cells of a carried store; or one line
 unfoldable pub answerText : Answer → List ℕ → List ℕ
 answerText (planRefused n) part = planRefusedText n
 answerText (refused n) part = refusedText n
 answerText (reduced plan T calls f) part = planLineText plan ++ partText (λ i. getD calls i Recover) part (f .number)
+answerText (carried target) part = doneText ++ changedText target
 
 -- How many bytes an output has at most: a plan's are its two sizes and the two ends of each channel.
 abbrev pub planBytes : ℕ
@@ -41,9 +49,12 @@ planBytes = 2 + 2 * channelLimit
 abbrev pub partBytes : ℕ
 partBytes = (listLimit - 1) * keptBytes longest + lastBytes longest
 
--- 9,370 bytes
+abbrev pub doneBytes : ℕ
+doneBytes = 5
+
+-- the longer of the two long ones: 9,370 bytes for a part, and 143,456 for the cells
 abbrev pub consoleBytes : ℕ
-consoleBytes = planLineBytes planBytes + partBytes
+consoleBytes = max (planLineBytes planBytes + partBytes) (doneBytes + storeCells * cellBytes)
 
 -- The public promise: the buffer holds the whole of the answer's text, and is otherwise as before. Only which part
 -- comes back, of those that the definition allows, is open.

@@ -1,5 +1,8 @@
--- What `console` answers and prints, and what the functions behind it promise.
+-- What `console` answers and prints, what `converter` writes, and what the functions behind them promise.
+pub mod Answer
+pub mod Carrying
 pub mod Console
 pub mod ConsoleText
+pub mod File
 pub mod Lists
 pub mod Printing

@@ -1,24 +1,38 @@
-// The work of the program `console`: one function from the input's bytes to the output's bytes. The first byte says
-// what is asked, and the others are that request's input.
+// The work of the programs `console` and `converter`: one function from the input's bytes to the output's bytes each.
+// The first byte says what is asked, and the others are that request's input.
+mod carry;
+mod cells;
 mod list;
 mod print;
 mod reduce;
 
+use crate::carry::Direction;
 use model::Refusal;
 ghost use mathlib.Core.Path.{_≡_};
 ghost use lib.ListN.{replicate};
+ghost use Rattle.report.specs.Appends.{WholeText};
+ghost use Rattle.operator.specs.Console.{askedIn};
 ghost use Rattle.operator.specs.ConsoleText.{consoleBytes, Tells};
-ghost use Rattle.operator.specs.Printing.{askedIn};
+ghost use Rattle.operator.specs.File.{file, fileBytes};
 
 // No output is longer than this: specs/ConsoleText.antt has the sum.
-const OUTPUT_BYTES: usize = 9370;
+const OUTPUT_BYTES: usize = 143456;
+
+// No file is longer than this: the cells of a store of the new form.
+const FILE_BYTES: usize = 21252;
 
 // The part of a list that matters (document 02, M-100).
 const REDUCTION: u8 = 1;
 
+// A store carried to the new form, and one carried back (document 02, M-102).
+const UPGRADE: u8 = 2;
+
+const DOWNGRADE: u8 = 3;
+
 // What the first byte asks.
 enum Request {
     Reduction,
+    Carry(Direction),
     Unknown,
 }
 
@@ -29,16 +43,24 @@ pub fn buffer() -> [u8; OUTPUT_BYTES]
     [0; OUTPUT_BYTES]
 }
 
+// A buffer that holds every file.
+pub fn file_buffer() -> [u8; FILE_BYTES]
+    ensures { λ r. ⌜ r ≡ replicate fileBytes 0 ⌝ }
+{
+    [0; FILE_BYTES]
+}
+
 fn asked(bytes: &[u8]) -> Request
     ensures { λ r. ⌜ r ≡ askedIn (now (bytes .entry)) ⌝ }
 {
     if bytes.len() < 1 {
         return Request::Unknown;
     }
-    if bytes[0] == REDUCTION {
-        Request::Reduction
-    } else {
-        Request::Unknown
+    match bytes[0] {
+        REDUCTION => Request::Reduction,
+        UPGRADE => Request::Carry(Direction::Upgrade),
+        DOWNGRADE => Request::Carry(Direction::Downgrade),
+        _ => Request::Unknown,
     }
 }
 
@@ -49,6 +71,19 @@ pub fn console(input: &[u8], out: &mut [u8; OUTPUT_BYTES]) -> usize
     let bytes = plan::taken(input);
     match asked(bytes) {
         Request::Reduction => reduce::reduce(&bytes[1..], out),
+        Request::Carry(direction) => carry::show(direction, &bytes[1..], out),
         Request::Unknown => report::refused_line(out, 0, Refusal::Malformed),
+    }
+}
+
+// What `converter` writes for an input, and how many bytes that is: the store that requests 2 and 3 make of zeros.
+pub fn convert(input: &[u8], out: &mut [u8; FILE_BYTES]) -> usize
+    ensures { λ r. ⌜ WholeText (file (now (input .entry))) (now (out .entry)) (now (out .exit)) r ⌝ }
+{
+    let bytes = plan::taken(input);
+    match asked(bytes) {
+        Request::Reduction => 0,
+        Request::Carry(direction) => carry::file(direction, &bytes[1..], out),
+        Request::Unknown => 0,
     }
 }

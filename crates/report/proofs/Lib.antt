@@ -3,5 +3,6 @@ pub mod Appending
 pub mod Printing
 pub mod Texts
 pub mod HexTexts
+pub mod Filling
 pub mod Changes
 pub mod ExamplesHold

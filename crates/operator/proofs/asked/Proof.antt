@@ -1,6 +1,6 @@
--- `asked` meets its contract: no byte, the byte of a reduction, or another.
+-- `asked` meets its contract: no byte, the byte of a request, or another.
 use borrow.Author.Needs.{needs}
-use borrow.Author.Tests.{eq-eqb, ne-eqb}
+use borrow.Author.Tests.{ne-eqb}
 use mathlib.Core.Path.{sym, _∙_}
 use Rattle.operator.proofs.Asking.{asks-nothing, asks}
 use Rattle.operator.proofs.asked.Statement.{statement}
@@ -10,14 +10,19 @@ nothing : tie.Need-returns
 nothing c = asks-nothing (c .before .args .bytes .now) (c .if1 .taken)
 
 reduction : tie.Need-returns-2
-reduction c =
-    let bytes = c .before .before .before .args .bytes .now in
-    sym (asks bytes (c .before .before .if1 .left) ∙ rw (eq-eqb _ _ (c .if2 .taken)))
+reduction c = sym (asks _ (c .before .before .if1 .left) ∙ rw (c .match .keys1))
 
-other : tie.Need-returns-3
+upgrade : tie.Need-returns-3
+upgrade c = sym (asks _ (c .before .before .if1 .left) ∙ rw (c .match .keys2))
+
+downgrade : tie.Need-returns-4
+downgrade c = sym (asks _ (c .before .before .if1 .left) ∙ rw (c .match .keys3))
+
+other : tie.Need-returns-5
 other c =
-    let bytes = c .before .before .before .args .bytes .now in
-    sym (asks bytes (c .before .before .if1 .left) ∙ rw (ne-eqb _ _ (c .if2 .left)))
+    let none = c .match .rest in
+    sym (asks _ (c .before .before .if1 .left)
+    ∙ rw (ne-eqb _ _ (none .0 .0 .1), ne-eqb _ _ (none .0 .1), ne-eqb _ _ (none .1)))
 
 pub asked-spec : {M : Type 1} → statement M
-asked-spec = tie.close (tie.spec nothing (λ c. search needs) reduction other)
+asked-spec = tie.close (tie.spec nothing (λ c. search needs) reduction upgrade downgrade other)

@@ -1,56 +1,68 @@
--- `console` meets its contract: a reduction, or nothing that is known.
+-- `console` meets its contract: a request that is known, or nothing that is.
 use borrow.Author.Needs.{needs}
 use native.Mathlib.Omega.{arith}
-use Prim.Native.Nat.{ℕ, _-_, _≤_}
-use mathlib.Core.Path.{_≡_, sym, ap, _∙_}
-use mathlib.Core.List.{List}
-use lib.ListN.{length, take, drop, length-take, length-drop}
-use lib.Seq.{take-all}
+use Prim.Native.Nat.{_-_, _≤_}
+use mathlib.Core.Path.{sym, _∙_}
+use lib.ListN.{length, take, drop}
 use Rattle.model.specs.Program.{inputBytes}
-use Rattle.operator.specs.Console.{reduction}
-use Rattle.operator.proofs.Asking.{AsksReduction, reduction-asked, nothing-asked, tells, line-answers}
+use Rattle.operator.specs.Console.{answerTo}
+use Rattle.operator.proofs.Asking.{known, few, tells}
+use Rattle.operator.proofs.Lines.{line}
 use Rattle.operator.proofs.console.Statement.{statement}
 use Rattle.operator.proofs.console.Tie as tie
 
--- a reduction is asked
-module _ (c : tie.After-enum-told) where
-  abbrev taken : tie.After-taken
-  taken = c .before .before .before
+-- a request that is known has its first byte
+reduction-some : (c : tie.After-enum-told) → 1 ≤ length (c .before .before .before .taken .result .now)
+reduction-some c =
+    let asked = c .before .before in
+    rw (sym (asked .asked .ensures) ∙ c .enum-told .given .1) at (known (asked .before .taken .result .now))
 
-  asks : AsksReduction (taken .taken .result .now)
-  asks = reduction-asked _ (sym (c .before .before .asked .ensures) ∙ c .enum-told .given .1)
+carry-some : (c : tie.After-known-told) → 1 ≤ length (c .before .before .before .before .taken .result .now)
+carry-some c =
+    let asked = c .before .before .before in
+    rw (sym (asked .asked .ensures) ∙ c .before .direction .given .1) at (known (asked .before .taken .result .now))
 
-  few : length (take (length (taken .taken .result .now) - 1) (drop 1 (taken .taken .result .now))) ≤ inputBytes
-  few =
-      let all = length-take inputBytes (taken .before .before .args .input .now) in
-      rw (length-take, length-drop) (omega (arith, ap length (taken .taken .ensures) ∙ all))
-
--- the bytes after the first
-others : (bytes : List ℕ) → take (length bytes - 1) (drop 1 bytes) ≡ drop 1 bytes
-others bytes = take-all (length bytes - 1) (drop 1 bytes) (rw length-drop (omega arith))
+-- the bytes after it are no more than are taken
+taken-few : (c : tie.After-taken)
+    → length (take (length (c .taken .result .now) - 1) (drop 1 (c .taken .result .now))) ≤ inputBytes
+taken-few c = few (c .before .before .args .input .now) (c .taken .ensures)
 
 reduces : tie.Need-returns
+unfolding answerTo
 reduces c =
     let told = c .before .before .before in
-    let t = taken told in
+    let asked = told .before .before in
+    let t = asked .before in
     let start = t .before .before in
-    tells (start .args .input .now) (t .taken .ensures)
-    (asks told .answer ∙ sym (ap reduction (others (t .taken .result .now)))) (omega (arith, start .good))
-    (c .reduce .ensures)
+    tells (start .args .input .now) (t .taken .ensures) (sym (told .enum-told .given .1) ∙ asked .asked .ensures)
+    (omega (arith, start .good)) (c .reduce .ensures)
 
-unknown : tie.Need-returns-2
+carries : tie.Need-returns-2
+unfolding answerTo
+carries c =
+    let told = c .before .before .before .before in
+    let asked = told .before .before in
+    let t = asked .before in
+    let start = t .before .before in
+    tells (start .args .input .now) (t .taken .ensures) (sym (told .direction .given .1) ∙ asked .asked .ensures)
+    (omega (arith, start .good)) (c .show .ensures)
+
+unknown : tie.Need-returns-3
+unfolding answerTo
 unknown c =
     let told = c .before .before in
     let asked = told .before .before in
     let t = asked .before in
     let start = t .before .before in
-    tells (start .args .input .now) (t .taken .ensures)
-    (nothing-asked _ (sym (asked .asked .ensures) ∙ told .enum-told2 .given .1)) (omega (arith, start .good))
-    (line-answers (c .refused-line .ensures))
+    tells (start .args .input .now) (t .taken .ensures) (sym (told .enum-told2 .given .1) ∙ asked .asked .ensures)
+    (omega (arith, start .good)) (line (c .refused-line .ensures))
 
 pub console-spec : {M : Type 1} → statement M
 console-spec =
     tie.close
-    (tie.spec (λ c κs. search needs) (λ c κs. search needs) (λ c. search needs) (λ c. asks c .some)
-    (λ c. omega (arith, asks c .some))
-    (λ c. search needs) (λ c κs. few (c .before .before)) (λ c. search needs) (λ c κs. search needs) reduces unknown)
+    (tie.spec (λ c κs. search needs) (λ c κs. search needs) (λ c. search needs) (λ c. reduction-some c)
+    (λ c. omega (arith, reduction-some c)) (λ c. search needs)
+    (λ c κs. taken-few (c .before .before .before .before .before)) (λ c. search needs)
+    (λ c. carry-some c) (λ c. omega (arith, carry-some c)) (λ c. search needs)
+    (λ c κs. taken-few (c .before .before .before .before .before .before)) (λ c. search needs)
+    (λ c κs. search needs) reduces carries unknown)

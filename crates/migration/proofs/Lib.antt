@@ -1,0 +1,9 @@
+-- Laws that the proofs of several functions cite, and the theorems of specs/Faithful.
+pub mod Forms
+pub mod Admitting
+pub mod Writing
+pub mod Copying
+pub mod Left
+pub mod Landing
+pub mod Restarts
+pub mod ThereAndBack

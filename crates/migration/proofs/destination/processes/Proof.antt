@@ -1,0 +1,104 @@
+-- `destination::processes` meets its contract. The loop's invariant: the records of the first p processes are written.
+use borrow.Author.Needs.{needs}
+use native.Mathlib.Omega.{arith}
+use Prim.Native.Nat.{ℕ, _+_, _-_, _<_, _≤_}
+use mathlib.Core.Path.{ap₂}
+use mathlib.Core.List.{List}
+use lib.ListN.{length, length-set, set}
+use Rattle.model.specs.Form.{Form, cell, messageLog, physicalCell, countCell, receiptsBy, entriesBy}
+use Rattle.model.specs.Write.{Write, write, writeAll}
+use Rattle.model.specs.Restart.{storedLine, restored, restoredBy}
+use Rattle.model.proofs.store.Readable.{last-in-store}
+use Rattle.model.proofs.store.Addresses.{line-in-store, in-store, count-within}
+use Rattle.migration.specs.Carry.{processWrites, processesWrites}
+use Rattle.migration.specs.Reading.{formOf}
+use Rattle.migration.proofs.Admitting.{Ready, ready}
+use Rattle.migration.proofs.Forms.{physical-low}
+use Rattle.migration.proofs.Writing.{Wrote, none-wrote, one-wrote, all-wrote, wrote-length}
+use Rattle.migration.proofs.destination.processes.Statement.{statement}
+use Rattle.migration.proofs.destination.processes.Tie as tie
+
+-- the writes for a process
+abbrev writes : Form → Form → List ℕ → ℕ → List Write
+writes F G source p = let k : ℕ = storedLine source in processWrites G k p (restored F source k p)
+
+abbrev Inv-loop : tie.InvT-loop
+Inv-loop topology from source to target₀ line p₀ target p =
+    Wrote target₀ (writes (formOf from) (formOf to) source) (topology .processes) target p
+
+abbrev μ-loop : tie.MeasureT-loop
+μ-loop topology from source to target₀ line p₀ target p = topology .processes - p
+
+-- nothing was refused
+known : (c : tie.Start Inv-loop μ-loop)
+    → let a = c .args in Ready (formOf (a .from)) (formOf (a .to)) (a .topology) (a .source .now) (a .target .now)
+known c = let a = c .args in ready _ _ (a .topology) (a .source .now) (a .target .now) (c .pre)
+
+-- where a turn begins
+abbrev start : tie.Then1 Inv-loop μ-loop → tie.Start Inv-loop μ-loop
+start t = t .before .before .before .before .before .before
+
+abbrev at : tie.Then1 Inv-loop μ-loop → ℕ
+at t = t .before .before .loop .p
+
+word-requires : tie.Need-word-requires Inv-loop μ-loop
+unfolding storedLine cell physicalCell countCell
+word-requires c κs =
+    let test = c .before .before in
+    let r = known (start test) .readable in
+    let log = messageLog (at test) in
+    rw (c .physical-cell2 .ensures)
+    (record { count = r .fits log (test .if1 .taken); ends = last-in-store r log (test .if1 .taken) })
+
+-- the process's two cells are in the target
+inside : (c : tie.After-word Inv-loop μ-loop)
+    → c .before .before .physical-cell .result + 1 < length (c .before .before .before .before .before .loop .target)
+unfolding storedLine cell physicalCell countCell
+inside c =
+    let test = c .before .before .before in
+    let sized = known (start test) .sized in
+    let line = storedLine (start test .args .source .now) in
+    let count = in-store sized line _ (count-within sized line (messageLog (at test)) (test .if1 .taken)) in
+    omega (arith, count, c .before .before .physical-cell .ensures, wrote-length (test .before .before .loop .inv))
+
+low : (c : tie.After-word Inv-loop μ-loop) → c .before .before .physical-cell .result ≤ 40000
+low c =
+    let test = c .before .before .before in
+    let a = start test .args in
+    let small : at test < 256 = omega (arith, test .if1 .taken, known (start test) .sized .processes) in
+    rw (c .before .before .physical-cell .ensures) (physical-low (a .to) _ (at test) small)
+
+loop-again : tie.Need-loop-again Inv-loop μ-loop
+unfolding storedLine cell physicalCell countCell write writeAll restored restoredBy receiptsBy entriesBy
+loop-again c =
+    let test = c .before .before .before in
+    let l = test .before .before .loop in
+    one-wrote (l .inv) (test .if1 .taken)
+    (ap₂ (λ (a v : ℕ). set (set (l .target) a v) (a + 1) 0) (c .before .before .physical-cell .ensures)
+    (rw (c .before .physical-cell2 .ensures) at (c .word .ensures)))
+
+returns : tie.Need-returns Inv-loop μ-loop
+unfolding processesWrites
+returns c = all-wrote (c .before .before .loop .inv) (c .if1 .left)
+
+pub processes-spec : {M : Type 1} → statement M
+processes-spec =
+    tie.close
+    (tie.spec
+    Inv-loop
+    μ-loop
+    (λ c. line-in-store (known (c .before .before .before) .readable .sized))
+    (λ c. none-wrote)
+    (λ c κs. search needs)
+    (λ c κs. search needs)
+    word-requires
+    (λ c. omega (arith, low c))
+    (λ c. omega (arith, inside c))
+    (λ c. omega (arith, low c))
+    (λ c. omega (arith, low c))
+    (λ c. simp length-set (inside c))
+    (λ c. search needs)
+    (λ c. omega arith)
+    loop-again
+    (λ c. wrote-length (c .before .before .loop .inv))
+    returns)

@@ -1,0 +1,7 @@
+-- Document 02, M-102: a store carried from one form to another, as definitions, theorems about them as statements, and
+-- what the code promises.
+pub mod Old
+pub mod Carry
+pub mod Carries
+pub mod Faithful
+pub mod Reading

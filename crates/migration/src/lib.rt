@@ -1,0 +1,53 @@
+// Document 02, M-102: a store carried from the old form to the present one, and back. The source is only read.
+mod destination;
+mod form;
+mod source;
+
+use crate::form::Form;
+use model::Topology;
+use model::Verdict;
+ghost use mathlib.Core.Path.{_≡_};
+ghost use Rattle.model.specs.Outcome.{refusalOf};
+ghost use Rattle.model.specs.Layout.{present};
+ghost use Rattle.migration.specs.Old.{old};
+ghost use Rattle.migration.specs.Carry.{carry, carryRefusal};
+ghost use Rattle.migration.specs.Carries.{Carries};
+ghost use Rattle.migration.specs.Reading.{formOf};
+
+// How many cells a store of the old form has.
+pub const OLD_STORE_CELLS: usize = 3265;
+
+// Refusals 1 to 6 and 16 of the source, then 6 of the target, which has so many cells.
+fn admit(topology: Topology, from: Form, source: &[u32], to: Form, cells: usize) -> Verdict
+    ensures { λ r. ⌜ refusalOf r ≡ carryRefusal (formOf from) (formOf to) topology (now (source .entry)) cells ⌝ }
+{
+    form::long_enough(source::admit(topology, from, source), to, cells)
+}
+
+// The source's line into the target, in its form; or a refusal.
+fn carry(topology: Topology, from: Form, source: &[u32], to: Form, target: &mut [u32]) -> Verdict
+    ensures { λ r. ⌜ Carries (carry (formOf from) (formOf to) topology (now (source .entry)) (now (target .entry)))
+        r (now (target .exit)) ⌝ }
+{
+    let verdict = admit(topology, from, source, to, target.len());
+    if let Verdict::Pass = verdict {
+        destination::write(topology, from, source, to, target);
+    }
+    verdict
+}
+
+// From the old form to the present one: of any topology, any source and any target.
+pub fn upgrade(topology: Topology, source: &[u32], target: &mut [u32]) -> Verdict
+    ensures { λ r. ⌜ Carries (carry old present topology (now (source .entry)) (now (target .entry)))
+        r (now (target .exit)) ⌝ }
+{
+    carry(topology, Form::Old, source, Form::Present, target)
+}
+
+// From the present form to the old one: of any topology, any source and any target.
+pub fn downgrade(topology: Topology, source: &[u32], target: &mut [u32]) -> Verdict
+    ensures { λ r. ⌜ Carries (carry present old topology (now (source .entry)) (now (target .entry)))
+        r (now (target .exit)) ⌝ }
+{
+    carry(topology, Form::Present, source, Form::Old, target)
+}

@@ -1,0 +1,58 @@
+-- `convert` meets its contract: a store that is carried, or nothing.
+use borrow.Author.Needs.{needs}
+use native.Mathlib.Omega.{arith}
+use Prim.Native.Nat.{_-_, _≤_}
+use mathlib.Core.Path.{sym, _∙_}
+use lib.ListN.{length, take, drop}
+use Rattle.model.specs.Program.{inputBytes}
+use Rattle.report.proofs.Appending.{nothing}
+use Rattle.report.proofs.Printing.{whole-text}
+use Rattle.operator.specs.File.{fileTo}
+use Rattle.operator.proofs.Asking.{known, few}
+use Rattle.operator.proofs.Files.{filed}
+use Rattle.operator.proofs.convert.Statement.{statement}
+use Rattle.operator.proofs.convert.Tie as tie
+
+-- a request that is known has its first byte
+some : (c : tie.After-known-told) → 1 ≤ length (c .before .before .before .before .taken .result .now)
+some c =
+    let asked = c .before .before .before in
+    rw (sym (asked .asked .ensures) ∙ c .before .direction .given .1) at (known (asked .before .taken .result .now))
+
+-- the bytes after it are no more than are taken
+taken-few : (c : tie.After-taken)
+    → length (take (length (c .taken .result .now) - 1) (drop 1 (c .taken .result .now))) ≤ inputBytes
+taken-few c = few (c .before .before .args .input .now) (c .taken .ensures)
+
+reduction : tie.Need-returns
+unfolding fileTo
+reduction c =
+    let asked = c .before .before in
+    let t = asked .before in
+    filed (t .before .before .args .input .now) (t .taken .ensures)
+    (sym (c .enum-told .given .1) ∙ asked .asked .ensures) (whole-text (nothing _ _) (omega arith))
+
+carries : tie.Need-returns-2
+carries c =
+    let told = c .before .before .before .before in
+    let asked = told .before .before in
+    let t = asked .before in
+    let start = t .before .before in
+    filed (start .args .input .now) (t .taken .ensures) (sym (told .direction .given .1) ∙ asked .asked .ensures)
+    (whole-text (c .file .ensures) (omega (arith, start .good)))
+
+unknown : tie.Need-returns-3
+unfolding fileTo
+unknown c =
+    let asked = c .before .before in
+    let t = asked .before in
+    filed (t .before .before .args .input .now) (t .taken .ensures)
+    (sym (c .enum-told2 .given .1) ∙ asked .asked .ensures) (whole-text (nothing _ _) (omega arith))
+
+pub convert-spec : {M : Type 1} → statement M
+convert-spec =
+    tie.close
+    (tie.spec (λ c κs. search needs) (λ c κs. search needs) (λ c. search needs) (λ c. search needs) (λ c. some c)
+    (λ c. omega (arith, some c)) (λ c. search needs)
+    (λ c κs. taken-few (c .before .before .before .before .before .before)) (λ c. search needs)
+    reduction carries unknown)

@@ -1,0 +1,23 @@
+-- What `console` answers, as data.
+use Prim.Native.Nat.{ℕ}
+use mathlib.Core.Path.{_≡_}
+use mathlib.Core.List.{List, []}
+use Rattle.model.specs.declared.Topology.{Topology}
+use Rattle.model.specs.declared.Record.{Record}
+use Rattle.model.specs.CallList.{Failure}
+use Rattle.model.specs.Reduction.{Smallest}
+
+-- an answer: a line alone; the part of a list that matters, of which the plan's bytes, the plan, the list's calls and
+-- its first failure are fixed; or what the target of a carried store then holds
+pub data Answer : Type 0 where
+  planRefused : ℕ → Answer
+  refused : ℕ → Answer
+  reduced : List ℕ → Topology → List Record → Failure → Answer
+  carried : List ℕ → Answer
+
+-- the parts that may stand in an answer: a smallest one, and none in another answer
+abbrev pub PartIn : Answer → List ℕ → Type 0
+PartIn (planRefused n) part = part ≡ []
+PartIn (refused n) part = part ≡ []
+PartIn (reduced plan T calls f) part = Smallest T calls f part
+PartIn (carried target) part = part ≡ []

@@ -1,0 +1,40 @@
+-- What the program `converter` writes: the input is that of `console`'s requests 2 and 3, and the output is a store, as
+-- the bytes of its cells.
+use Prim.Native.Nat.{ℕ, _*_}
+use mathlib.Core.List.{List, []}
+use lib.ListN.{take, drop, replicate}
+use Rattle.model.specs.Notation.{concatBelow}
+use Rattle.model.specs.Form as form
+use Rattle.model.specs.Layout.{storeCells, cell}
+use Rattle.model.specs.Program.{inputBytes}
+use Rattle.model.specs.Record.{bodyBytes}
+use Rattle.operator.specs.declared.Request.{Request}
+use Rattle.operator.specs.declared.Request.the-variants.{Reduction, Carry, Unknown}
+use Rattle.operator.specs.Answer.{Answer, planRefused, refused, reduced, carried}
+use Rattle.operator.specs.Carrying.{sourceForm, targetForm, carrying}
+use Rattle.operator.specs.Console.{askedIn}
+
+-- the first n cells of a store, 4 bytes each, lowest first
+unfoldable pub cellsBytes : ℕ → List ℕ → List ℕ
+cellsBytes n store = concatBelow n (λ i. bodyBytes (cell store i))
+
+-- all that a form has; nothing where `console` prints anything but `done`
+unfoldable pub fileOf : form.Form → Answer → List ℕ
+fileOf G (planRefused n) = []
+fileOf G (refused n) = []
+fileOf G (reduced plan T calls f) = []
+fileOf G (carried target) = cellsBytes (form.storeCells G) target
+
+-- what a store is carried into starts as zeros, as a new file has them
+unfoldable pub fileTo : Request → List ℕ → List ℕ
+fileTo Reduction bytes = []
+fileTo (Carry d) bytes =
+    fileOf (targetForm d) (carrying (sourceForm d) (targetForm d) bytes (replicate storeCells 0))
+fileTo Unknown bytes = []
+
+unfoldable pub file : List ℕ → List ℕ
+file input = let bytes : List ℕ = take inputBytes input in fileTo (askedIn bytes) (drop 1 bytes)
+
+-- how many bytes it has at most, the new form's: 21,252
+abbrev pub fileBytes : ℕ
+fileBytes = storeCells * 4
