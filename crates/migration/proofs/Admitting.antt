@@ -13,7 +13,7 @@ use Rattle.model.specs.Outcome.{refusalOf}
 use Rattle.model.specs.Check.{Check, _⇒_, firstRefusal}
 use Rattle.model.specs.Topology.{topologyRefusal}
 use Rattle.model.specs.Form.{Form, storeCells}
-use Rattle.model.specs.Restart.{recoverRefusal}
+use Rattle.model.specs.Recover.{recoverRefusal}
 use Rattle.model.proofs.laws.Lists.{or-else-none}
 use Rattle.model.proofs.laws.Passing.{passed}
 use Rattle.model.proofs.store.Sizes.{Sized}

@@ -5,5 +5,5 @@ pub mod Writing
 pub mod Copying
 pub mod Left
 pub mod Landing
-pub mod Restarts
+pub mod Recovers
 pub mod ThereAndBack

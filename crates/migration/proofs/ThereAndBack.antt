@@ -9,12 +9,12 @@ use Rattle.model.specs.Notation.{orElse}
 use Rattle.model.specs.Check.{firstRefusal}
 use Rattle.model.specs.Form.{numbers}
 use Rattle.model.specs.State.{GlobalState}
-use Rattle.model.specs.Restart.{startupOr, recoverRefusal, recover}
+use Rattle.model.specs.Recover.{startupOr, recoverRefusal, recover}
 use Rattle.migration.specs.Old.{old}
 use Rattle.migration.specs.Carry.{carryRefusal, carriedOr, carry}
 use Rattle.migration.specs.Faithful.{Alike, Faithful, FaithfulOfCode, ThereAndBack}
 use Rattle.migration.proofs.Admitting.{ready}
-use Rattle.migration.proofs.Restarts.{alike}
+use Rattle.migration.proofs.Recovers.{alike}
 
 -- document 01's: records of 66 cells, wires at 1,056 in the half, halves of 1,632 and 3,265 in all
 pub old-numbers : numbers old ≡ 66 ∷ 1056 ∷ 1632 ∷ 3265 ∷ []

@@ -10,7 +10,7 @@ use Rattle.model.specs.Notation.{concatBelow, orElse}
 use Rattle.model.specs.Check.{_⇒_, firstRefusal}
 use Rattle.model.specs.Form.{Form, messageLog, channelLog, storeCells, physicalCell, countCell, logged}
 use Rattle.model.specs.Write.{Write, writeAll, cellWrites, commitWrites}
-use Rattle.model.specs.Restart.{storedLine, recoverRefusal, restored}
+use Rattle.model.specs.Recover.{storedLine, recoverRefusal, restored}
 
 -- "The finished line's words become copies with empty board logs"
 abbrev pub processWrites : Form → ℕ → ℕ → ℕ → List Write

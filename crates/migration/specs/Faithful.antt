@@ -9,7 +9,7 @@ use Rattle.model.specs.declared.Topology.{Topology}
 use Rattle.model.specs.declared.Verdict.{Verdict}
 use Rattle.model.specs.Outcome.{refusalOf}
 use Rattle.model.specs.Form.{Form, storeCells}
-use Rattle.model.specs.Restart.{recover}
+use Rattle.model.specs.Recover.{recover}
 use Rattle.migration.specs.Carry.{carry}
 use Rattle.migration.specs.Carries.{Carries}
 

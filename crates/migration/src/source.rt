@@ -14,7 +14,7 @@ ghost use Prim.Native.Nat.{_+_, _≤_};
 ghost use lib.ListN.{length};
 ghost use Rattle.model.specs.Outcome.{refusalOf};
 ghost use Rattle.model.specs.Form.{cellsFrom, receiptIn, messagePlaces};
-ghost use Rattle.model.specs.Restart.{initializeRefusal, countsFit, recoverRefusal};
+ghost use Rattle.model.specs.Recover.{initializeRefusal, countsFit, recoverRefusal};
 ghost use Rattle.migration.specs.Reading.{formOf, Lies, wordAt};
 
 // Whether the logs of the source's line are within their places.

@@ -16,7 +16,7 @@ use Rattle.model.specs.State.{GlobalState}
 use Rattle.model.specs.Step.{priorChecks, roomChecks, logChecks, ownChecks, stepChecks}
 use Rattle.model.specs.Start.{initializeRefusal, recoverRefusal}
 use Rattle.model.specs.Order.{documentOrder, inOrder, checkNumbers}
-use Rattle.model.specs.Restart as restart
+use Rattle.model.specs.Recover as recovery
 
 -- "Order for steps: 15, 6, 8, 12, 13, 10, 14, 9, 11."
 pub steps-in-order : (s : GlobalState) (cells : ℕ) (x : Step)
@@ -49,11 +49,11 @@ sizes-first T r e = rw e refl
 -- 1 to 5 before 6,
 pub topology-first : (T : Topology) (cells : ℕ) (r : ℕ) → topologyRefusal T ≡ some r
     → initializeRefusal T cells ≡ some r
-unfolding restart.initializeRefusal orElse
+unfolding recovery.initializeRefusal orElse
 topology-first T cells r e = rw e refl
 
 -- and 1 to 6 before 16
 pub initialize-first : (T : Topology) (store : List ℕ) (r : ℕ) → initializeRefusal T (length store) ≡ some r
     → recoverRefusal T store ≡ some r
-unfolding restart.recoverRefusal orElse
+unfolding recovery.recoverRefusal orElse
 initialize-first T store r e = rw e refl

@@ -19,7 +19,7 @@ use Rattle.model.specs.Program.{session, sessionFrom, sessionOf, Reading
 use Rattle.model.specs.Program.{planOf, planLength, shapeRefusal, planRefusal}
 use Rattle.model.specs.Run.{Call, call, recovery, World, replyTo, next, run, trace, firstWorld}
 use Rattle.model.specs.ProgramRuns.{callOf, replyLine, replyLines, ToldLines, ProgramsAreRuns}
-use Rattle.model.specs.Restart as restart
+use Rattle.model.specs.Recover as recovery
 use Rattle.model.proofs.laws.Lists.{or-else-none}
 use Rattle.model.proofs.laws.Calls.{initialize-refusal}
 use Rattle.model.proofs.laws.CallLists.{served}
@@ -78,7 +78,7 @@ module _ (T : Topology) where
 -- a plan that is not refused is accepted by initialize
 plan-accepted : (bytes store : List ℕ) → storeCells ≤ length store → planRefusal bytes ≡ none
     → initialize (planOf bytes) store .refusal ≡ none
-unfolding planRefusal restart.initializeRefusal firstRefusal orElse
+unfolding planRefusal recovery.initializeRefusal firstRefusal orElse
 plan-accepted bytes store long e =
     initialize-refusal (planOf bytes) store
     ∙ rw (or-else-none (shapeRefusal bytes) (topologyRefusal (planOf bytes)) e .1, le-ltb _ _ long)

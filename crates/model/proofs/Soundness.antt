@@ -35,7 +35,7 @@ use Rattle.model.specs.Write.{underBudget}
 use Rattle.model.specs.Start.{startupOr, initializeRefusal, initialize, storedLine, countsFit}
 use Rattle.model.specs.Start.{recoverRefusal, recoveredWord, recoveredChannel, recover}
 use Rattle.model.specs.Form as form
-use Rattle.model.specs.Restart as restart
+use Rattle.model.specs.Recover as recovery
 use Rattle.model.proofs.laws.Tests.{and-right, or-left, or-right, true-is-not-false, either}
 use Rattle.model.proofs.laws.Functions.{upd-all, upd-other}
 use Rattle.model.proofs.laws.Lists.{tabulate-length, all-at, or-else-none}
@@ -264,7 +264,7 @@ initialize-sound T store e =
 -- a channel filled from its log is as long as the log's count, which fits
 recovered-length : (T : Topology) (store : List ℕ) → countsFit T store ≡ true → RoomKept T (recoveredChannel T store)
 unfolding
-    restart.countsFit restart.countFits restart.recoveredChannel hasChannel messages form.logged form.bodiesBy
+    recovery.countsFit recovery.countFits recovery.recoveredChannel hasChannel messages form.logged form.bodiesBy
     form.entriesBy entriesFrom
 recovered-length T store e c l =
     rw (lt-ltb c (T .channels) l, length-map, length-map, tabulate-length)
@@ -272,7 +272,7 @@ recovered-length T store e c l =
 
 pub recover-sound : (T : Topology) (store : List ℕ) → recover T store .refusal ≡ none
     → sound (recover T store .state) ≡ true
-unfolding restart.recover restart.recoverRefusal startupOr
+unfolding recovery.recover recovery.recoverRefusal startupOr
 recover-sound T store e =
     let n : recoverRefusal T store ≡ none = sym (recover-refusal T store) ∙ e in
     let (first, fits) = or-else-none (initializeRefusal T (length store)) _ n in

@@ -15,7 +15,7 @@ pub mod Write
 pub mod Change
 pub mod Receive
 pub mod Step
-pub mod Restart
+pub mod Recover
 pub mod Start
 pub mod Record
 pub mod Program

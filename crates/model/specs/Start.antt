@@ -11,13 +11,13 @@ use Rattle.model.specs.Outcome.{Said, line, refused}
 use Rattle.model.specs.Layout.{present, physicalCell, Log, messageLog, channelLog, countCell}
 use Rattle.model.specs.State.{GlobalState, idleState}
 use Rattle.model.specs.Write.{Write, writeAll, commitWrites}
-use Rattle.model.specs.Restart as restart
-pub use Rattle.model.specs.Restart.{Startup}
-unfoldable pub use Rattle.model.specs.Restart.{startupOr, storedLine}
+use Rattle.model.specs.Recover as recovery
+pub use Rattle.model.specs.Recover.{Startup}
+unfoldable pub use Rattle.model.specs.Recover.{startupOr, storedLine}
 
 -- 1 to 5, then "6 store under [5,313] cells."
 abbrev pub initializeRefusal : Topology → ℕ → Option ℕ
-initializeRefusal T cells = restart.initializeRefusal present T cells
+initializeRefusal T cells = recovery.initializeRefusal present T cells
 
 -- "Setup writes copy 0 and counts 0 for the planned boards and counts 0 for the planned wires in half 0, then 0 into
 -- cell 0"
@@ -36,28 +36,28 @@ initialize T store =
 
 -- "Restart only reads: from plan and store it gives an idle state at line k", and the parts of that
 abbrev pub recover : Topology → List ℕ → Startup
-recover T store = restart.recover present T store
+recover T store = recovery.recover present T store
 
 abbrev pub recoverRefusal : Topology → List ℕ → Option ℕ
-recoverRefusal T store = restart.recoverRefusal present T store
+recoverRefusal T store = recovery.recoverRefusal present T store
 
 abbrev pub countFits : List ℕ → ℕ → Log → Bool
-countFits store n log = restart.countFits present store n log
+countFits store n log = recovery.countFits present store n log
 
 abbrev pub countsFit : Topology → List ℕ → Bool
-countsFit T store = restart.countsFit present T store
+countsFit T store = recovery.countsFit present T store
 
 abbrev pub restoredBy : List ℕ → ℕ → ℕ → ℕ → ℕ
-restoredBy store n p k = restart.restoredBy present store n p k
+restoredBy store n p k = recovery.restoredBy present store n p k
 
 abbrev pub restored : List ℕ → ℕ → ℕ → ℕ
-restored store n p = restart.restored present store n p
+restored store n p = recovery.restored present store n p
 
 abbrev pub recoveredWord : Topology → List ℕ → ℕ → ℕ
-recoveredWord T store p = restart.recoveredWord present T store p
+recoveredWord T store p = recovery.recoveredWord present T store p
 
 abbrev pub recoveredChannel : Topology → List ℕ → ℕ → List Entry
-recoveredChannel T store c = restart.recoveredChannel present T store c
+recoveredChannel T store c = recovery.recoveredChannel present T store c
 
 -- what a recover says: "`line` and its number for a restart", or "`refused` and number"
 unfoldable pub lineOr : Option ℕ → ℕ → Said

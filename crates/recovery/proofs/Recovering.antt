@@ -18,7 +18,7 @@ use Rattle.model.specs.State.{GlobalState, view, idleState, blankState, emptyCh
 use Rattle.model.specs.Outcome.{startRefusal}
 use Rattle.model.specs.Start.{startupOr, storedLine, restored}
 use Rattle.model.specs.Start.{recoveredWord, recoveredChannel}
-use Rattle.model.specs.Restart as restart
+use Rattle.model.specs.Recover as recovery
 use Rattle.model.proofs.laws.Functions.{seen-replicate, filledBelow}
 use Rattle.recovery.specs.Starts.{Starts}
 
@@ -56,9 +56,9 @@ abbrev pub channelOf : List ℕ → ℕ → List Entry
 channelOf st c = messages false (logged st (storedLine st) c)
 
 pub words-below : (T : Topology) (st : List ℕ) → filledBelow (T .processes) (wordOf st) 0 ≡ recoveredWord T st
-unfolding restart.recoveredWord hasProcess
+unfolding recovery.recoveredWord hasProcess
 words-below T st = refl
 
 pub channels-below : (T : Topology) (st : List ℕ) → filledBelow (T .channels) (channelOf st) [] ≡ recoveredChannel T st
-unfolding restart.recoveredChannel hasChannel
+unfolding recovery.recoveredChannel hasChannel
 channels-below T st = refl

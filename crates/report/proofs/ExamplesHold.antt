@@ -13,7 +13,7 @@ use Rattle.model.specs.Write as write
 use Rattle.model.specs.Change as change
 use Rattle.model.specs.Receive as receive
 use Rattle.model.specs.Step as step
-use Rattle.model.specs.Restart as restart
+use Rattle.model.specs.Recover as recovery
 use Rattle.model.specs.Start as start
 use Rattle.model.specs.Outcome as outcome
 use Rattle.model.specs.Record as records
@@ -48,9 +48,9 @@ unfolding
     step.mayCheckpointLogically step.maySendMarker step.mayCommit step.reaction step.firstReaction step.markerOnClosed
     step.priorChecks step.roomChecks step.logChecks step.ownChecks step.stepChecks step.nextLine step.quietly step.react
     step.receivedOutcome step.receive step.afterPhysical step.effect step.resultOf step.step step.answer
-    restart.startupOr restart.storedLine restart.initializeRefusal restart.countFits restart.countsFit
-    restart.recoverRefusal restart.restoredBy restart.restored restart.recoveredWord restart.recoveredChannel
-    restart.recover
+    recovery.startupOr recovery.storedLine recovery.initializeRefusal recovery.countFits recovery.countsFit
+    recovery.recoverRefusal recovery.restoredBy recovery.restored recovery.recoveredWord recovery.recoveredChannel
+    recovery.recover
     start.initializeWrites start.initialize start.lineOr start.recoverSaid start.stateOr
     outcome.saidValues
     records.fieldsOf records.absent records.provided records.recordOf records.andThen records.nonzero records.readByte

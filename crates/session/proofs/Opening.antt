@@ -16,7 +16,7 @@ use Rattle.model.specs.State.{GlobalState}
 use Rattle.model.specs.Start.{initializeRefusal, initialize}
 use Rattle.model.specs.Program.{BudgetSource, given, inputBytes, planLength, planRefusal}
 use Rattle.model.specs.Program.{sessionFrom, sessionOf, playedOf, played}
-use Rattle.model.specs.Restart as restart
+use Rattle.model.specs.Recover as recovery
 use Rattle.plan.proofs.Readings.{Passes}
 use Rattle.report.specs.Appends.{Appends}
 use Rattle.report.specs.TextBytes.{planRefusedBytes, processBytes, channelBytes, cellBytes}
@@ -31,7 +31,7 @@ use Rattle.session.proofs.Lines.{report-text}
 -- initialize isn't refused, which is why nothing looks at its answer
 pub starts : {T : Topology} {records store : List ℕ} → MayRun T records store
     → initializeRefusal T (length store) ≡ none
-unfolding restart.initializeRefusal firstRefusal orElse
+unfolding recovery.initializeRefusal firstRefusal orElse
 starts {store} may = rw (may .accepted, le-ltb (length store) storeCells (may .cells))
 
 -- what is played of a plan that passed: its parts one after the other

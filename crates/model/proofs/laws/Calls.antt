@@ -23,7 +23,7 @@ use Rattle.model.specs.Write.{Result, Answered, underBudget, writeAll}
 use Rattle.model.specs.Step.{priorChecks, roomChecks, logChecks, ownChecks, stepChecks, quietly, effect, resultOf}
 use Rattle.model.specs.Step.{step, answer}
 use Rattle.model.specs.Start.{startupOr, initializeRefusal, initialize, recoverRefusal, recover}
-use Rattle.model.specs.Restart as restart
+use Rattle.model.specs.Recover as recovery
 use Rattle.model.proofs.laws.Tests.{true-is-not-false, Tested, holds, fails, test}
 use Rattle.model.proofs.laws.Passing.{Passed, passed, none-fails, passed-both, Prior, prior}
 
@@ -144,7 +144,7 @@ unfolding initialize
 initialize-refusal T store = refusal-is (initializeRefusal T (length store)) _ _ _
 
 pub recover-refusal : (T : Topology) (store : List ℕ) → recover T store .refusal ≡ recoverRefusal T store
-unfolding restart.recover
+unfolding recovery.recover
 recover-refusal T store = refusal-is (recoverRefusal T store) _ _ _
 
 pub refused-leaves : (T : Topology) (store : List ℕ) {n : ℕ} → initializeRefusal T (length store) ≡ some n

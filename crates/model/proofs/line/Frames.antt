@@ -10,7 +10,7 @@ use Rattle.model.specs.State.{GlobalState}
 use Rattle.model.specs.Write.{Write, writeAll}
 use Rattle.model.specs.History.{History}
 use Rattle.model.specs.Form as form
-use Rattle.model.specs.Restart as restart
+use Rattle.model.specs.Recover as recovery
 use Rattle.model.proofs.store.Sizes.{Sized, sized-after}
 use Rattle.model.proofs.store.Slots.{SameLog, SameProcess, InSlot, restored-same, spared-log, spared-process}
 use Rattle.model.proofs.store.Slots.{spared-line}
@@ -30,7 +30,7 @@ module _ {st st′ : List ℕ} (n p k : ℕ) where
 -- reading with the store's own count is reading with that many
 module _ (st : List ℕ) (n p k : ℕ) where
   pub slot-by : k ≡ cell st (countCell n (messageLog p)) → slotOf st n p ≡ slotBy st n k p
-  unfolding slotOf slotBy restart.restored
+  unfolding slotOf slotBy recovery.restored
   slot-by e = rw e
 
   pub held-by : k ≡ cell st (countCell n (channelLog p)) → heldOf st n p ≡ heldBy st n k p

@@ -13,7 +13,7 @@ use Rattle.model.specs.State.{GlobalState, countOf}
 use Rattle.model.specs.Write.{Write, writeAll, logWrites}
 use Rattle.model.specs.History.{History}
 use Rattle.model.specs.Form as form
-use Rattle.model.specs.Restart as restart
+use Rattle.model.specs.Recover as recovery
 use Rattle.model.proofs.laws.Functions.{Indices, same, other, indices}
 use Rattle.model.proofs.laws.TopologyLaws.{Planned}
 use Rattle.model.proofs.laws.SoundLaws.{Fits}
@@ -132,7 +132,7 @@ module _ (s : GlobalState) (st : List ℕ) (h : History) (i : Inv s st h) (r : R
       (s .round .line + 1)
       (s .counts .messages q + 1) q
       ≡ loggedSlot r (processAt s st h q)
-  unfolding slotBy restart.restoredBy form.receiptsBy
+  unfolding slotBy recovery.restoredBy form.receiptsBy
   slot-logged q l room =
       let n : ℕ = s .round .line + 1 in
       let k : ℕ = s .counts .messages q in

@@ -21,7 +21,7 @@ use Rattle.model.specs.Write.{Write, writeAll, physicalWrites}
 use Rattle.model.specs.Step.{effect, nextLine, afterPhysical}
 use Rattle.model.specs.History.{History, Direction, sent, received, onStep, onAccepted}
 use Rattle.model.specs.Form as form
-use Rattle.model.specs.Restart as restart
+use Rattle.model.specs.Recover as recovery
 use Rattle.model.proofs.laws.Tests.{true-is-not-false}
 use Rattle.model.proofs.laws.Functions.{Indices, same, other, indices}
 use Rattle.model.proofs.laws.Passing.{MayCheckpointPhysically}
@@ -84,7 +84,7 @@ module _ (s : GlobalState) (st : List ℕ) (h : History) (p : ℕ) (ends : EndsP
 
   -- this process and those before it are saved as they stand
   own-saved : slotBy after n (s .counts .messages p) p .word ≡ s .word p
-  unfolding slotBy restart.restoredBy form.receiptsBy form.entriesBy entriesFrom tabulate replayBy
+  unfolding slotBy recovery.restoredBy form.receiptsBy form.entriesBy entriesFrom tabulate replayBy
   own-saved =
       rw (process-in i phase p (may .planned) .round .waiting (omega arith))
       (physical-written (s .topology) st (i .sized) n p (s .word p) (may .planned))

@@ -27,7 +27,7 @@ use Rattle.model.specs.History.{Event, History, newHistory, sent, receiv
 use Rattle.model.specs.History.{onRecover}
 use Rattle.model.specs.Claim.{Recovered}
 use Rattle.model.specs.Form as form
-use Rattle.model.specs.Restart as restart
+use Rattle.model.specs.Recover as recovery
 use Rattle.model.proofs.laws.Tests.{and-both}
 use Rattle.model.proofs.laws.Lists.{all-of}
 use Rattle.model.proofs.laws.Calls.{initialize-refusal}
@@ -55,29 +55,29 @@ module _ (s : GlobalState) (st : List ℕ) (h : History) (good : topologyRefusal
     line-is = i .stored
 
     counts-fit : countsFit T st ≡ true
-    unfolding restart.countsFit restart.countFits slotOf heldOf
+    unfolding recovery.countsFit recovery.countFits slotOf heldOf
     counts-fit =
         rw line-is
         (and-both _ _ (all-of (T .processes) _ (λ p l. le-leb _ _ (i .processes p l .fits)))
         (all-of (T .channels) _ (λ c l. le-leb _ _ (i .channels c l .fits))))
 
     not-refused : recoverRefusal T st ≡ none
-    unfolding restart.recoverRefusal restart.initializeRefusal orElse firstRefusal
+    unfolding recovery.recoverRefusal recovery.initializeRefusal orElse firstRefusal
     not-refused = rw (good, le-ltb (length st) storeCells (i .sized .cells), counts-fit)
 
     abbrev recovered : GlobalState
     recovered = idleState T k (recoveredWord T st) (recoveredChannel T st)
 
     recover-is : recover T st ≡ record { refusal = none; state = recovered; store = st }
-    unfolding restart.recover startupOr
+    unfolding recovery.recover startupOr
     recover-is = rw (not-refused, line-is)
 
     word-is : (p : ℕ) → p < T .processes → recoveredWord T st p ≡ wordOf (shortened h p)
-    unfolding restart.recoveredWord hasProcess slotOf bookOf
+    unfolding recovery.recoveredWord hasProcess slotOf bookOf
     word-is p l = rw (lt-ltb p (T .processes) l, line-is) (i .processes p l .finished)
 
     channel-is : (c : ℕ) → c < T .channels → recoveredChannel T st c ≡ messages false (logged st k c)
-    unfolding restart.recoveredChannel hasChannel
+    unfolding recovery.recoveredChannel hasChannel
     channel-is c l = rw (lt-ltb c (T .channels) l, line-is)
 
     bodies-are : (c : ℕ) → c < T .channels → bodies (recoveredChannel T st c) ≡ logged st k c
@@ -171,7 +171,7 @@ module _ (T : Topology) (store : List ℕ) (accepted : initialize T store .refus
   blank = initialized T store (sized-start present T store no-refusal)
 
   blank-word : (p : ℕ) → p < T .processes → slotOf after 0 p .word ≡ 0
-  unfolding slotOf restart.restored restart.restoredBy form.receiptsBy form.entriesBy entriesFrom tabulate replayBy
+  unfolding slotOf recovery.restored recovery.restoredBy form.receiptsBy form.entriesBy entriesFrom tabulate replayBy
   blank-word p l = rw (blank .counts (messageLog p) l) (blank .physical p l)
 
   blank-log : (c : ℕ) → c < T .channels → heldOf after 0 c .bodies ≡ []

@@ -18,7 +18,7 @@ use Rattle.model.specs.Word.{replayBy}
 use Rattle.model.specs.Form.{Form, cell, Log, messageLog, channelLog, messagePlaces, channelPlaces, places}
 use Rattle.model.specs.Form.{channelEntryCells, channelCells, entryCell, cellsFrom, entriesFrom, receiptIn}
 use Rattle.model.specs.Form.{bodyIn, entryCells, processCells, countCell}
-use Rattle.model.specs.Restart.{initializeRefusal, recoverRefusal, storedLine, countFits, countsFit}
+use Rattle.model.specs.Recover.{initializeRefusal, recoverRefusal, storedLine, countFits, countsFit}
 use Rattle.model.proofs.laws.Tests.{and-left, and-right}
 use Rattle.model.proofs.laws.Lists.{all-at, all-cong, or-else-none, tabulate-cong, tabulate-more, map-tabulate}
 use Rattle.model.proofs.laws.Passing.{passed}

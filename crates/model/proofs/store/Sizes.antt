@@ -11,7 +11,7 @@ use Rattle.model.specs.Check.{Check, _⇒_, firstRefusal}
 use Rattle.model.specs.Topology.{processLimit, channelLimit, topologyRefusal}
 use Rattle.model.specs.Form.{Form, storeCells}
 use Rattle.model.specs.Write.{Write, writeAll}
-use Rattle.model.specs.Restart.{initializeRefusal}
+use Rattle.model.specs.Recover.{initializeRefusal}
 use Rattle.model.proofs.laws.Lists.{or-else-none}
 use Rattle.model.proofs.laws.Passing.{passed}
 use Rattle.model.proofs.laws.TopologyLaws.{accepted-sizes}

@@ -13,7 +13,7 @@ use Rattle.model.specs.Write.{Write, writeAll, clearWrites, physicalWrit
 use Rattle.model.specs.Write.{commitWrites}
 use Rattle.model.specs.Start.{initializeWrites, restoredBy}
 use Rattle.model.specs.Form as form
-use Rattle.model.specs.Restart as restart
+use Rattle.model.specs.Recover as recovery
 use Rattle.model.proofs.laws.TopologyLaws.{Planned}
 use Rattle.model.proofs.store.Writes.{Each, each-take, each-append, each-map, written, kept, zeroInto, zeroed}
 use Rattle.model.proofs.store.Entries.{entry-ends, Between, entries-same, cells-into, append-counts, appends}
@@ -36,7 +36,7 @@ pub record SameProcess (n p k : ℕ) (st st′ : List ℕ) : Type 0 where
 
 pub restored-same : (n p k : ℕ) {st st′ : List ℕ} → SameProcess n p k st st′
     → restoredBy st′ n p k ≡ restoredBy st n p k
-unfolding restart.restoredBy form.receiptsBy
+unfolding recovery.restoredBy form.receiptsBy
 restored-same n p k e = rw (e .physical, e .log .entries)
 
 -- where the cells that are read of a log with k entries are kept, the log is the same

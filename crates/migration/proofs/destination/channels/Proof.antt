@@ -6,7 +6,7 @@ use mathlib.Core.Path.{ap₂, _∙_}
 use mathlib.Core.List.{List}
 use Rattle.model.specs.Form.{Form, cell, channelLog, countCell, logged, bodiesBy, entriesBy}
 use Rattle.model.specs.Write.{Write, writeAll}
-use Rattle.model.specs.Restart.{storedLine}
+use Rattle.model.specs.Recover.{storedLine}
 use Rattle.model.proofs.store.Readable.{last-in-store}
 use Rattle.model.proofs.store.Addresses.{line-in-store, in-store, log-within}
 use Rattle.migration.specs.Carry.{bodiesWrites, channelsWrites}

@@ -7,7 +7,7 @@ use mathlib.Core.List.{List}
 use lib.ListN.{length, length-set, set}
 use Rattle.model.specs.Form.{Form, cell, messageLog, physicalCell, countCell, receiptsBy, entriesBy}
 use Rattle.model.specs.Write.{Write, write, writeAll}
-use Rattle.model.specs.Restart.{storedLine, restored, restoredBy}
+use Rattle.model.specs.Recover.{storedLine, restored, restoredBy}
 use Rattle.model.proofs.store.Readable.{last-in-store}
 use Rattle.model.proofs.store.Addresses.{line-in-store, in-store, count-within}
 use Rattle.migration.specs.Carry.{processWrites, processesWrites}

@@ -6,7 +6,7 @@ use Prim.Native.Nat.{ℕ}
 use lib.ListN.{length, length-set}
 use Rattle.model.specs.Form.{cell}
 use Rattle.model.specs.Write.{Write, writeAll, commitWrites}
-use Rattle.model.specs.Restart.{storedLine}
+use Rattle.model.specs.Recover.{storedLine}
 use Rattle.model.proofs.store.Writes.{length-writeAll, writeAll-append}
 use Rattle.model.proofs.store.Addresses.{line-in-store}
 use Rattle.migration.specs.Carry.{processesWrites, channelsWrites, carryWrites}

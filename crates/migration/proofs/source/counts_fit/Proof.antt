@@ -6,7 +6,7 @@ use Prim.Native.Nat.{ℕ, _+_, _≤_}
 use mathlib.Core.Path.{_≡_, ap}
 use lib.ListN.{getD}
 use Rattle.model.specs.Form.{cell, messageLog, countCell, channelRecord, physicalCell}
-use Rattle.model.specs.Restart.{storedLine}
+use Rattle.model.specs.Recover.{storedLine}
 use Rattle.model.proofs.store.Sizes.{Sized, sized-start}
 use Rattle.model.proofs.store.Readable.{messages-over, messages-fit}
 use Rattle.migration.specs.Reading.{formOf}

@@ -4,24 +4,24 @@ use borrow.Author.Tests.{lt-ltb, le-ltb}
 use Rattle.model.specs.Notation.{orElse}
 use Rattle.model.specs.Check.{firstRefusal}
 use Rattle.model.specs.Outcome.{refusalOf}
-use Rattle.model.specs.Restart as restart
+use Rattle.model.specs.Recover as recovery
 use Rattle.recovery.proofs.start.admit.Statement.{statement}
 use Rattle.recovery.proofs.start.admit.Tie as tie
 
 returns : tie.Need-returns
-unfolding refusalOf restart.initializeRefusal orElse firstRefusal
+unfolding refusalOf recovery.initializeRefusal orElse firstRefusal
 returns c =
     let s = c .before .before .before in
     rw (← (s .check .ensures), c .before .enum-told .given .1, lt-ltb _ _ (c .if1 .taken))
 
 returns-2 : tie.Need-returns-2
-unfolding refusalOf restart.initializeRefusal orElse firstRefusal
+unfolding refusalOf recovery.initializeRefusal orElse firstRefusal
 returns-2 c =
     let s = c .before .before .before in
     rw (← (s .check .ensures), c .before .enum-told .given .1, le-ltb _ _ (c .if1 .left))
 
 returns-3 : tie.Need-returns-3
-unfolding refusalOf restart.initializeRefusal orElse firstRefusal
+unfolding refusalOf recovery.initializeRefusal orElse firstRefusal
 returns-3 c =
     let s = c .before .before .before in
     rw (← (s .check .ensures), c .before .r .given .1)

@@ -4,7 +4,7 @@ use borrow.Author.Needs.{needs}
 use Rattle.model.specs.Notation.{orElse}
 use Rattle.model.specs.Check.{firstRefusal}
 use Rattle.model.specs.Outcome.{refusalOf}
-use Rattle.model.specs.Restart as restart
+use Rattle.model.specs.Recover as recovery
 use Rattle.recovery.proofs.start.admit_store.Statement.{statement}
 use Rattle.recovery.proofs.start.admit_store.Tie as tie
 
@@ -13,7 +13,7 @@ unfolding refusalOf
 counts-fit-requires c κs = sym (c .before .before .admit .ensures) ∙ ap refusalOf (c .enum-told .given .1)
 
 returns : tie.Need-returns
-unfolding refusalOf restart.recoverRefusal orElse firstRefusal
+unfolding refusalOf recovery.recoverRefusal orElse firstRefusal
 returns c =
     let t = c .before .before in
     rw (
@@ -24,13 +24,13 @@ returns c =
     )
 
 returns-2 : tie.Need-returns-2
-unfolding refusalOf restart.recoverRefusal orElse firstRefusal
+unfolding refusalOf recovery.recoverRefusal orElse firstRefusal
 returns-2 c =
     let t = c .before .before in
     rw (← (t .before .before .admit .ensures), t .enum-told .given .1, ← (c .before .counts-fit .ensures), c .if1 .left)
 
 returns-3 : tie.Need-returns-3
-unfolding refusalOf restart.recoverRefusal orElse
+unfolding refusalOf recovery.recoverRefusal orElse
 returns-3 c = rw (← (c .before .before .before .admit .ensures), c .before .r .given .1)
 
 pub admit-store-spec : {M : Type 1} → statement M

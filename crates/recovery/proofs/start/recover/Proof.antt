@@ -6,7 +6,7 @@ use native.Mathlib.Omega.{arith}
 use Rattle.model.specs.Layout.{present, cell}
 use Rattle.model.specs.Start.{recover, recoverRefusal, storedLine}
 use Rattle.model.specs.Outcome.{refusalOf}
-use Rattle.model.specs.Restart as restart
+use Rattle.model.specs.Recover as recovery
 use Rattle.recovery.proofs.Recovering.{starts-ready, starts-refused}
 use Rattle.model.proofs.store.Readable.{readable}
 use Rattle.recovery.proofs.start.recover.Statement.{statement}
@@ -22,7 +22,7 @@ shared-slice-read-idle : tie.Need-shared-slice-read-idle
 shared-slice-read-idle c = omega (arith, readable present _ _ (ready (c .before .before .before)) .sized .cells)
 
 returns : tie.Need-returns
-unfolding restart.recover storedLine cell
+unfolding recovery.recover storedLine cell
 returns c =
     let n = c .before .before in
     let t = n .before .before in
@@ -30,7 +30,7 @@ returns c =
     (rw (← (n .before .words .ensures), ← (n .channels .ensures)) (c .idle .ensures))
 
 returns-2 : tie.Need-returns-2
-unfolding restart.recover refusalOf
+unfolding recovery.recover refusalOf
 returns-2 c =
     let r = c .before .before in
     starts-refused _ _ _ (c .refused .result) _

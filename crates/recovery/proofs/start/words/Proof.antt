@@ -10,7 +10,7 @@ use Rattle.model.specs.Topology.{processLimit}
 use Rattle.model.specs.Layout.{present, cell, messageLog}
 use Rattle.model.specs.Start.{storedLine}
 use Rattle.model.specs.Form as form
-use Rattle.model.specs.Restart as restart
+use Rattle.model.specs.Recover as recovery
 use Rattle.model.proofs.laws.Functions.{seen-replicate, filledBelow, filled-none, filled-more}
 use Rattle.model.proofs.store.Readable.{Readable, readable, last-in-store}
 use Rattle.recovery.specs.Starts.{receiptsAt}
@@ -59,7 +59,7 @@ array-write-r : tie.Need-array-write-r Inv-loop μ-loop
 array-write-r c = omega (arith, known (start (c .before .before .before .before)) .sized .processes)
 
 loop-again : tie.Need-loop-again Inv-loop μ-loop
-unfolding storedLine cell restart.restored restart.restoredBy form.receiptsBy form.entriesBy
+unfolding storedLine cell recovery.restored recovery.restoredBy form.receiptsBy form.entriesBy
 loop-again c =
     let t = c .before .before .before .before in
     let l = t .before .before .loop in

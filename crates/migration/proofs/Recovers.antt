@@ -17,8 +17,8 @@ use Rattle.model.specs.Channel.{messages}
 use Rattle.model.specs.Form.{Form, cell, Log, messageLog, channelLog, places, physicalCell, countCell}
 use Rattle.model.specs.Form.{entriesFrom, entriesBy, receiptsBy, bodiesBy, logged}
 use Rattle.model.specs.Write.{writeAll}
-use Rattle.model.specs.Restart.{storedLine, startupOr, initializeRefusal, countFits, countsFit, recoverRefusal}
-use Rattle.model.specs.Restart.{restoredBy, restored, recoveredWord, recoveredChannel, recover}
+use Rattle.model.specs.Recover.{storedLine, startupOr, initializeRefusal, countFits, countsFit, recoverRefusal}
+use Rattle.model.specs.Recover.{restoredBy, restored, recoveredWord, recoveredChannel, recover}
 use Rattle.model.proofs.laws.Tests.{and-both}
 use Rattle.model.proofs.laws.Lists.{all-of, tabulate-length, tabulate-at, tabulate-cong}
 use Rattle.model.proofs.laws.TopologyLaws.{Planned}
