@@ -6,6 +6,7 @@
 //!
 //!     against THIS THAT [DIR]
 
+mod carry;
 mod in_place;
 mod in_place_records;
 mod rules;
@@ -53,7 +54,7 @@ fn print_instructions(programs: &[String], pair: Pair) -> Result<(), String> {
 /// Both tables; the names of the works whose input is the same and whose checksums differ.
 fn print_tables<'a>(programs: &[String], pairs: &[Pair<'a>]) -> Vec<&'a str> {
     println!(
-        "{TURNS} turns, each program first in every other one. Units: a step, a recover, a record."
+        "{TURNS} turns, each program first in every other one. Units: a step, a recover, a record, a store carried."
     );
     println!(
         "\n| nanoseconds a unit, medians | this | that | this to that | in the turns | checksums |"

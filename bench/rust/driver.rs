@@ -1,6 +1,7 @@
 //! The work that is measured, the same for both Rust programs and for crates/speed: the input says which, how often,
 //! over which topology and over what; the checksum is printed.
 
+use crate::carry::{carry, Form};
 use crate::engine::Engine;
 use crate::reduce::{reduce, CallList, Found, Reduced};
 use crate::rules::STORE_CELLS;
@@ -11,6 +12,8 @@ const STEPS: u8 = 1;
 const RECOVER: u8 = 2;
 const READ: u8 = 3;
 const WRITE: u8 = 4;
+const REDUCE: u8 = 5;
+const UPGRADE: u8 = 6;
 /// A step of a script: its kind, its process or channel, its body.
 const SCRIPTED: usize = 6;
 
@@ -88,12 +91,16 @@ fn steps<E: Engine>(t: &Topology, times: u32, script: &[u8]) -> u32 {
     checksum(sum, engine.state(), &store)
 }
 
-fn recovers<E: Engine>(t: &Topology, times: u32, cells: &[u8]) -> u32 {
-    let mut store = [0; STORE_CELLS];
-    let mut engine = E::initialize(t, &mut store);
+fn fill(store: &mut [u32], cells: &[u8]) {
     for (cell, b) in store.iter_mut().zip(cells.chunks_exact(4)) {
         *cell = number(b);
     }
+}
+
+fn recovers<E: Engine>(t: &Topology, times: u32, cells: &[u8]) -> u32 {
+    let mut store = [0; STORE_CELLS];
+    let mut engine = E::initialize(t, &mut store);
+    fill(&mut store, cells);
     let mut sum = 0;
     for turn in 0..times {
         store[3] = turn;
@@ -160,6 +167,21 @@ fn reductions<E: Engine>(t: &Topology, times: u32, script: &[u8]) -> u32 {
     sum
 }
 
+/// The sum has the refusal's number, 0 where there is none, and the first process's word.
+fn carries(t: &Topology, times: u32, from: Form, to: Form, cells: &[u8]) -> u32 {
+    let mut source = [0; STORE_CELLS];
+    fill(&mut source, cells);
+    let mut target = [0; STORE_CELLS];
+    let mut sum = 0;
+    for turn in 0..times {
+        source[3] = turn;
+        let refusal =
+            carry(t, (from, &source), (to, &mut target)).map_or_else(|r| r as u32, |()| 0);
+        sum = fold(fold(sum, refusal), target[1]);
+    }
+    target.iter().fold(sum, |sum, &cell| fold(sum, cell))
+}
+
 pub fn run<E: Engine>() {
     let mut input = Vec::new();
     std::io::stdin().read_to_end(&mut input).unwrap();
@@ -181,7 +203,9 @@ pub fn run<E: Engine>() {
         RECOVER => recovers::<E>(&t, times, rest),
         READ => reads::<E>(times, rest),
         WRITE => writes::<E>(times, rest),
-        _ => reductions::<E>(&t, times, rest),
+        REDUCE => reductions::<E>(&t, times, rest),
+        UPGRADE => carries(&t, times, Form::Old, Form::Present, rest),
+        _ => carries(&t, times, Form::Present, Form::Old, rest),
     };
     println!("{sum}");
 }

@@ -2,6 +2,7 @@
 //!
 //!     inputs DIR
 
+mod carry;
 mod in_place;
 mod in_place_records;
 mod rules;

@@ -2,6 +2,7 @@
 mod by_value;
 mod by_value_records;
 mod by_value_start;
+mod carry;
 mod driver;
 mod engine;
 mod reduce;

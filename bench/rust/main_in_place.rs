@@ -1,4 +1,5 @@
 //! The measured work over the engine that changes its state in place.
+mod carry;
 mod driver;
 mod engine;
 mod in_place;

@@ -4,6 +4,7 @@
 //!
 //!     measure PROVED IN_PLACE BY_VALUE
 
+mod carry;
 mod engine;
 mod in_place;
 mod in_place_engine;
@@ -100,7 +101,7 @@ fn main() -> Result<(), String> {
     assert_eq!(programs.len(), SIDES, "measure PROVED IN_PLACE BY_VALUE");
     let works = works::works();
     let reductions = lists::reductions()?;
-    print!("Medians of {TURNS} turns. Units: a step, a recover, a record. ");
+    print!("Medians of {TURNS} turns. Units: a step, a recover, a record, a store carried. ");
     println!("All checksums are the same on the three sides.");
     print_times(&programs, &works)?;
     print_instructions(&programs, &works)?;

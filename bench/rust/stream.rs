@@ -1,7 +1,8 @@
 //! The inputs: streams of whole rounds, full stores, records. A step comes into a stream only if the engine takes it.
 
+use crate::carry::Form;
 use crate::in_place_records::write;
-use crate::rules::{channel_count_cell, message_count_cell, CHANNEL_PLACES, STORE_CELLS};
+use crate::rules::{CHANNEL_PLACES, MESSAGE_PLACES, STORE_CELLS};
 use crate::types::*;
 
 /// A small generator of numbers (a linear congruence), so that every run has the same streams.
@@ -124,16 +125,17 @@ pub fn rounds(t: &Topology, least: usize) -> Vec<Record> {
     walk.steps
 }
 
-/// A store at line 0 whose logs are all full.
-pub fn full_store(t: &Topology) -> Vec<u8> {
+/// A store of a form, at line 0, whose logs are all full.
+pub fn full_store(t: &Topology, form: Form) -> Vec<u8> {
     let mut random = Random { seed: 11 };
-    let mut store: Vec<u32> = (0..STORE_CELLS).map(|_| random.below(1 << 30) as u32).collect();
+    let mut store: Vec<u32> =
+        (0..form.store_cells()).map(|_| random.below(1 << 30) as u32).collect();
     store[0] = 0;
     for p in 0..t.processes as usize {
-        store[message_count_cell(0, p)] = 64;
+        store[form.physical_cell(0, p) + 1] = MESSAGE_PLACES as u32;
     }
     for c in 0..t.channels as usize {
-        store[channel_count_cell(0, c)] = 8;
+        store[form.channel_count_cell(0, c)] = CHANNEL_PLACES as u32;
     }
     store.iter().flat_map(|cell| cell.to_le_bytes()).collect()
 }

@@ -1,6 +1,7 @@
 //! The works that are measured, as files too, and how: programs run on their inputs one after the other, again and
 //! again, and callgrind's counts.
 
+use crate::carry::Form;
 use crate::stream;
 use crate::types::Topology;
 use std::fs;
@@ -80,7 +81,7 @@ pub fn work(name: &str, units: usize, times: u32, mode: u8, t: &Topology, data: 
     Work { name: name.to_string(), units, times, mode, rest }
 }
 
-/// The steps at three plans, the recover, the records read and written.
+/// The steps at three plans, the recover, the records read and written, stores carried to the present form and back.
 pub fn works() -> Vec<Work> {
     let mut all = Vec::new();
     let mut last = Vec::new();
@@ -91,11 +92,14 @@ pub fn works() -> Vec<Work> {
         all.push(work(&name, last.len(), times, 1, &t, &stream::script(&last)));
     }
     let t = stream::plan(16, 64);
-    let full = stream::full_store(&t);
+    let full = stream::full_store(&t, Form::Present);
     all.push(work("recover, every log full", 1, 80_000, 2, &t, &full));
     let records = stream::records(&last);
     all.push(work("records read", last.len(), 2000, 3, &t, &records));
     all.push(work("records written", last.len(), 3000, 4, &t, &stream::script(&last)));
+    let old = stream::full_store(&t, Form::Old);
+    all.push(work("upgrade, every log full", 1, 80_000, 6, &t, &old));
+    all.push(work("downgrade, every log full", 1, 80_000, 7, &t, &full));
     all
 }
 

@@ -1,4 +1,4 @@
-// What the input says: the plan, numbers, the steps of a script. Past its end all is 0.
+// What the input says: the plan, numbers, a store's cells, the steps of a script. Past its end all is 0.
 use model::Step;
 use model::Topology;
 
@@ -20,6 +20,17 @@ pub fn number(bytes: &[u8], at: usize) -> u32 {
         return 0;
     }
     record::word(bytes[at], bytes[at + 1], bytes[at + 2], bytes[at + 3])
+}
+
+// As many cells as the store has, 4 bytes each.
+pub fn cells(store: &mut [u32], bytes: &[u8]) {
+    let mut at: usize = 0;
+    let mut i: usize = 0;
+    while i < store.len() {
+        store[i] = number(bytes, at);
+        at = std::num::wrapping_add_usize(at, 4);
+        i += 1;
+    }
 }
 
 pub fn plan(bytes: &[u8]) -> Topology {

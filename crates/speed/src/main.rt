@@ -1,6 +1,8 @@
 // The work that bench/run measures. The input: a byte for the work, 4 for how often, the plan as in document 01, then a
 // script (six bytes a step: kind, process or channel, body), a store's cells or records; past its end all is 0. Printed
-// is a checksum of each answer and of the last line, words, channels and store: 31 × sum + value, modulo 2^32.
+// is a checksum of each answer and of the last line, words, channels and store, or of the store that another was
+// carried into: 31 × sum + value, modulo 2^32.
+mod carries;
 mod input;
 mod reads;
 mod recovers;
@@ -27,7 +29,9 @@ fn work(bytes: &mut [u8]) -> u32 {
         2 => recovers::run(topology, times, &bytes[at..]),
         3 => reads::run(times, &mut bytes[at..]),
         4 => writes::run(times, &bytes[at..]),
-        _ => reductions::run(topology, times, &bytes[at..]),
+        5 => reductions::run(topology, times, &bytes[at..]),
+        6 => carries::run(true, topology, times, &bytes[at..]),
+        _ => carries::run(false, topology, times, &bytes[at..]),
     }
 }
 

@@ -1,23 +1,13 @@
 // Work 2: recovers of one store, a cell of which changes each time.
-use crate::input::number;
+use crate::input::cells;
 use crate::sum::fold;
 use crate::sum::whole_sum;
 use model::Topology;
 use rules::layout::STORE_CELLS;
 
-fn fill(store: &mut [u32], cells: &[u8]) {
-    let mut at: usize = 0;
-    let mut i: usize = 0;
-    while i < store.len() {
-        store[i] = number(cells, at);
-        at = std::num::wrapping_add_usize(at, 4);
-        i += 1;
-    }
-}
-
-pub fn run(topology: Topology, times: u32, cells: &[u8]) -> u32 {
+pub fn run(topology: Topology, times: u32, bytes: &[u8]) -> u32 {
     let mut store = [0; STORE_CELLS];
-    fill(&mut store, cells);
+    cells(&mut store, bytes);
     let started = recovery::recover(topology, &store);
     let mut state = started.state;
     let mut sum = 0;

@@ -8,10 +8,10 @@ use Rattle.speed.proofs.recovers.run.Statement.{statement}
 use Rattle.speed.proofs.recovers.run.Tie as tie
 
 abbrev Inv-loop : tie.InvT-loop
-Inv-loop topology times cells store₀ state₀ sum₀ i₀ store state sum i = length store ≡ storeCells
+Inv-loop topology times bytes store₀ state₀ sum₀ i₀ store state sum i = length store ≡ storeCells
 
 abbrev μ-loop : tie.MeasureT-loop
-μ-loop topology times cells store₀ state₀ sum₀ i₀ store state sum i = times - i
+μ-loop topology times bytes store₀ state₀ sum₀ i₀ store state sum i = times - i
 
 pub run-spec : {M : Type 1} → statement M
 run-spec =

@@ -3,17 +3,17 @@ use borrow.Author.Needs.{needs}
 use Prim.Native.Nat.{_-_}
 use mathlib.Core.Path.{_≡_}
 use lib.ListN.{length}
-use Rattle.speed.proofs.recovers.fill.Statement.{statement}
-use Rattle.speed.proofs.recovers.fill.Tie as tie
+use Rattle.speed.proofs.input.cells.Statement.{statement}
+use Rattle.speed.proofs.input.cells.Tie as tie
 
 abbrev Inv-loop : tie.InvT-loop
-Inv-loop store₀ cells at₀ i₀ store at i = length store ≡ length store₀
+Inv-loop store₀ bytes at₀ i₀ store at i = length store ≡ length store₀
 
 abbrev μ-loop : tie.MeasureT-loop
-μ-loop store₀ cells at₀ i₀ store at i = length store₀ - i
+μ-loop store₀ bytes at₀ i₀ store at i = length store₀ - i
 
-pub fill-spec : {M : Type 1} → statement M
-fill-spec =
+pub cells-spec : {M : Type 1} → statement M
+cells-spec =
     tie.close
     (tie.spec
     Inv-loop
