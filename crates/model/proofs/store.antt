@@ -1,6 +1,7 @@
 -- What writes do to the store: to one cell, and to what the two slots hold; and what a store has that can be read.
 pub mod Writes
 pub mod Entries
+pub mod RunningIndex
 pub mod Sizes
 pub mod Addresses
 pub mod Readable

@@ -110,10 +110,8 @@ last-in-store {F} {T} {st} r log planned =
     (log-within (r .sized) k log a planned (upto-more k log count (places log) a (r .fits log planned) upto))
 
 -- the first k bodies of a log whose count stands in the cell `at`
-abbrev pub bodiesFrom : List ℕ → ℕ → ℕ → List ℕ
-bodiesFrom st at k = map bodyIn (entriesFrom st channelEntryCells at k)
-
-pub bodies-are : (st : List ℕ) (at k : ℕ) → bodiesFrom st at k ≡ tabulate k (λ i. cell st (at + 1 + i))
+pub bodies-are : (st : List ℕ) (at k : ℕ)
+    → map bodyIn (entriesFrom st channelEntryCells at k) ≡ tabulate k (λ i. cell st (at + 1 + i))
 unfolding entriesFrom cellsFrom
 bodies-are st at k =
     map-tabulate bodyIn k (λ i. cellsFrom st channelEntryCells (entryCell channelEntryCells at i))

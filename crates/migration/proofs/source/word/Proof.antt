@@ -2,7 +2,6 @@
 -- index stands at the next entry.
 use borrow.Author.Needs.{needs}
 use native.Mathlib.Omega.{arith}
-use native.Mathlib.Nat.{mul-suc}
 use Prim.Native.Nat.{ℕ, _+_, _-_, _≤_}
 use lib.ListN.{length}
 use mathlib.Core.Path.{_≡_, refl, sym, _∙_}
@@ -10,9 +9,9 @@ use mathlib.Core.List.{List}
 use Rattle.model.specs.Notation.{tabulate}
 use Rattle.model.specs.Word.{replayBy}
 use Rattle.model.specs.Form as model
-use Rattle.model.specs.Form.{cell, entryCell, entriesFrom}
-use Rattle.model.proofs.store.Entries.{entry-ends}
+use Rattle.model.specs.Form.{cell, entriesFrom}
 use Rattle.model.proofs.store.Readable.{receiptsFrom, replay-more}
+use Rattle.model.proofs.store.RunningIndex.{RunningIndex, index-starts, index-goes-on, index-inside}
 use Rattle.migration.specs.Reading.{formOf}
 use Rattle.migration.proofs.source.word.Statement.{statement}
 use Rattle.migration.proofs.source.word.Tie as tie
@@ -22,8 +21,7 @@ abbrev replayed : model.Form → List ℕ → ℕ → ℕ → ℕ
 replayed F source at i = replayBy (F .enter) (cell source at) (receiptsFrom source (F .messageCells) (at + 1) i)
 
 pub record Replaying (F : model.Form) (source : List ℕ) (at n entry word i : ℕ) : Type 0 where
-  pub within : i ≤ n
-  pub next : entry ≡ entryCell (F .messageCells) (at + 1) i
+  pub index : RunningIndex (at + 1 + 1) (F .messageCells) n entry i
   pub entered : word ≡ replayed F source at i
 
 abbrev Inv-loop : tie.InvT-loop
@@ -34,7 +32,7 @@ abbrev μ-loop : tie.MeasureT-loop
 
 loop-holds : tie.Need-loop-holds Inv-loop μ-loop
 unfolding cell tabulate replayBy entriesFrom
-loop-holds c = record { within = omega arith; next = omega arith; entered = refl }
+loop-holds c = record { index = index-starts (omega arith); entered = refl }
 
 cast-n : tie.Need-cast-n Inv-loop μ-loop
 unfolding cell
@@ -49,13 +47,7 @@ inside : (c : tie.In-loop Inv-loop μ-loop)
     → c .before .loop .entry + formOf (begun c .args .form) .messageCells ≤ length (begun c .args .source .now)
 unfolding cell
 inside c =
-    let w : ℕ = formOf (begun c .args .form) .messageCells in
-    omega (
-      arith,
-      c .before .loop .inv .next,
-      begun c .pre .ends,
-      entry-ends w (c .before .loop .i) _ (c .loop-test .taken),
-    )
+    index-inside (c .before .loop .inv .index) (c .loop-test .taken) _ (omega (arith, begun c .pre .ends))
 
 add-entry-2 : tie.Need-add-entry-2 Inv-loop μ-loop
 add-entry-2 c =
@@ -72,11 +64,10 @@ loop-again c =
     let F : model.Form = formOf (a .form) in
     let inv = turn .before .loop .inv in
     record {
-      within = omega arith;
-      next = rw (inv .next, turn .before .before .before .message-cells .ensures)
-          (omega (arith, mul-suc (F .messageCells) (turn .before .loop .i)));
+      index = rw (turn .before .before .before .message-cells .ensures)
+          (index-goes-on (inv .index) (turn .loop-test .taken));
       entered = c .enter .ensures
-          ∙ rw (c .before .receipt .ensures, inv .next, inv .entered)
+          ∙ rw (c .before .receipt .ensures, inv .index .stands, inv .entered)
           (sym (replay-more (F .enter) (a .source .now) (F .messageCells) (a .at + 1) (turn .before .loop .i)
           (cell (a .source .now) (a .at))));
     }
@@ -85,7 +76,7 @@ returns : tie.Need-returns Inv-loop μ-loop
 unfolding cell
 returns c =
     let a = c .before .before .before .before .before .before .args in
-    let e : c .before .loop .i ≡ cell (a .source .now) (a .at + 1) = omega (arith, c .before .loop .inv .within) in
+    let e : c .before .loop .i ≡ cell (a .source .now) (a .at + 1) = omega (arith, c .before .loop .inv .index .within) in
     rw e at (c .before .loop .inv .entered)
 
 pub word-spec : {M : Type 1} → statement M

@@ -7,7 +7,7 @@ use mathlib.Core.List.{List}
 use borrow.Author.Needs.{needs}
 use borrow.Author.Tests.{lt-leb, le-leb, lt-ltb, le-ltb}
 use native.Mathlib.Omega.{arith}
-use native.Mathlib.Nat.{mul-suc, mul-le-mul-left}
+use native.Mathlib.Nat.{mul-le-mul-left}
 use mir.Syntax.{w8, w32}
 use mir.Val.{Fits}
 use lib.ListN.{length}
@@ -15,6 +15,7 @@ use lib.Dec.{leb, ltb}
 use Rattle.model.specs.Notation.{allBelow}
 use Rattle.model.specs.Form.{cell}
 use Rattle.model.proofs.laws.Lists.{all-next, all-but}
+use Rattle.model.proofs.store.RunningIndex.{RunningIndex, index-starts, index-goes-on}
 use Rattle.rules.proofs.cells.at_most.Statement.{statement}
 use Rattle.rules.proofs.cells.at_most.Tie as tie
 
@@ -24,8 +25,7 @@ fits store first stride limit i =
 
 -- the next cell is the i-th, and those before it pass
 pub record Passed (store : List ℕ) (first stride n limit at i : ℕ) : Type 0 where
-  pub within : i ≤ n
-  pub next : at ≡ first + stride * i
+  pub index : RunningIndex first stride n at i
   pub pass : allBelow i (fits store first stride limit) ≡ true
 
 abbrev Inv-loop : tie.InvT-loop
@@ -59,7 +59,7 @@ inside : (c : tie.In-loop Inv-loop μ-loop)
 inside c = omega (arith, before c, c .before .before .if2 .left)
 
 low : (c : tie.In-loop Inv-loop μ-loop) → c .before .loop .at < 4294967296 * 256
-low c = omega (arith, before c, last-low (start c), c .before .loop .inv .next)
+low c = omega (arith, before c, last-low (start c), c .before .loop .inv .index .stands)
 
 returns : tie.Need-returns Inv-loop μ-loop
 unfolding allBelow
@@ -73,7 +73,7 @@ returns-2 c =
 
 loop-holds : tie.Need-loop-holds Inv-loop μ-loop
 unfolding allBelow
-loop-holds c = record { within = omega arith; next = omega arith; pass = refl }
+loop-holds c = record { index = index-starts refl; pass = refl }
 
 returns-3 : tie.Need-returns-3 Inv-loop μ-loop
 unfolding cell
@@ -81,7 +81,7 @@ returns-3 c =
     let b = c .before .before in
     let a = start b .args in
     let f = fits (a .store .now) (a .first) (a .stride) (a .limit) in
-    let over = rw (b .before .loop .inv .next) at (c .if3 .taken) in
+    let over = rw (b .before .loop .inv .index .stands) at (c .if3 .taken) in
     sym (all-but (a .n) (b .before .loop .i) f (b .loop-test .taken) (rw (lt-ltb _ _ (inside b)) (lt-leb _ _ over)))
 
 add-at : tie.Need-add-at Inv-loop μ-loop
@@ -98,17 +98,16 @@ loop-again c =
     let i = b .before .loop .i in
     let inv = b .before .loop .inv in
     let f = fits (a .store .now) (a .first) (a .stride) (a .limit) in
-    let most = rw (inv .next) at (c .if3 .left) in
+    let most = rw (inv .index .stands) at (c .if3 .left) in
     record {
-      within = omega arith;
-      next = omega (arith, inv .next, mul-suc (a .stride) i);
+      index = index-goes-on (inv .index) (b .loop-test .taken);
       pass = all-next i f (inv .pass) (rw (lt-ltb _ _ (inside b)) (le-leb _ _ most));
     }
 
 returns-4 : tie.Need-returns-4 Inv-loop μ-loop
 returns-4 c =
     let inv = c .before .loop .inv in
-    let e : c .before .loop .i ≡ c .before .before .before .before .args .n = omega (arith, inv .within) in
+    let e : c .before .loop .i ≡ c .before .before .before .before .args .n = omega (arith, inv .index .within) in
     sym (rw e at (inv .pass))
 
 pub at-most-spec : {M : Type 1} → statement M
@@ -125,7 +124,7 @@ at-most-spec =
     returns-2
     loop-holds
     (λ c. omega (arith, low c))
-    (λ c. rw (c .before .before .loop .inv .next) (inside (c .before)))
+    (λ c. rw (c .before .before .loop .inv .index .stands) (inside (c .before)))
     returns-3
     add-at
     (λ c. search needs)
