@@ -1,5 +1,5 @@
-// Work 6: a store of the old form upgraded; work 7: one of the present form downgraded. A cell changes each time. The sum
-// has the refusal's number, 0 where there is none, and the first process's word.
+// Work 6: a store of the old form upgraded; work 7: one of the present form downgraded. A cell changes each time. The
+// sum has the refusal's number, 0 where there is none, and the first process's word.
 use crate::input::cells;
 use crate::sum::cell_sum;
 use crate::sum::fold;
