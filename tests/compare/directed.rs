@@ -36,8 +36,10 @@ pub fn calls() -> Vec<List> {
     round_cuts(&mut lists);
     for program in BOTH {
         wire_orders(&mut lists, program);
-        let bytes = encode(program, &plans::largest(), &full_logs());
-        lists.push(list(format!("{program:?}: every log full, twice"), program, bytes));
+        for times in 1..=2 {
+            let bytes = encode(program, &plans::largest(), &full_logs(times));
+            lists.push(list(format!("{program:?}: every log full, {times} times"), program, bytes));
+        }
     }
     lists
 }
@@ -183,12 +185,13 @@ fn rounds(number: usize) -> Vec<Call> {
     (0..number).flat_map(|_| round()).collect()
 }
 
-/// Two rounds on the largest plan in which every message log gets 64 bodies and
-/// every channel log 8: every cell of the store is written. Then a recover.
-pub fn full_logs() -> Vec<Call> {
+/// Rounds on the largest plan in which every message log gets 64 bodies and
+/// every channel log 8: after two every cell of the store is written. Then a
+/// recover, after one round of the half with the store's last cell.
+pub fn full_logs(rounds: u32) -> Vec<Call> {
     let topology = plans::largest();
     let mut calls = Vec::new();
-    for round in 0..2 {
+    for round in 0..rounds {
         calls.extend(copies(16));
         for i in 0..1024 {
             // 16 receives on each of the four channels into a process

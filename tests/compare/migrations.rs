@@ -68,7 +68,7 @@ fn left_by(form: Form, topology: &Topology, calls: &[Call]) -> Source {
 }
 
 /// After setup, the listing, each call of two rounds that stores something, and
-/// all logs full in both halves.
+/// all logs full in the upper half and in both.
 fn runs(lists: &mut Vec<List>, (asked, form, _): Way) {
     let one = Topology { processes: 1, channels: Vec::new() };
     both(lists, "store after setup, one board", left_by(form, &one, &[]).input(asked));
@@ -83,8 +83,10 @@ fn runs(lists: &mut Vec<List>, (asked, form, _): Way) {
         before = source.cells;
     }
     let largest = plans::largest();
-    let source = left_by(form, &largest, &full_logs());
-    both(lists, "store with every log full", source.input(asked));
+    for times in 1..=2 {
+        let source = left_by(form, &largest, &full_logs(times));
+        both(lists, &format!("store with every log full, {times} times"), source.input(asked));
+    }
 }
 
 fn listing() -> Vec<Call> {
