@@ -1,4 +1,4 @@
-// The logs in the store, as recover reads them.
+// The logs in the store, as recover reads them: an index runs from entry to entry.
 use model::Channel;
 use model::ROOM;
 use model::Receipt;
@@ -18,15 +18,16 @@ pub fn replay_log(store: &[u32], at: usize, word: u32) -> u32
     ensures { λ r. ⌜ r ≡ replay word (receiptsAt (now (store .entry)) at) ⌝ }
 {
     let n = store[at] as usize;
+    let mut entry = at + 1;
     let mut w = word;
     let mut i = 0;
     while i < n {
-        let entry = at + 1 + layout::MESSAGE_ENTRY_CELLS * i;
         let receipt = Receipt {
             channel: store[entry + 1],
             body: store[entry],
         };
         w = word::enter(w, receipt);
+        entry += layout::MESSAGE_ENTRY_CELLS;
         i += 1;
     }
     w
@@ -38,10 +39,12 @@ pub fn fill(store: &[u32], at: usize) -> Channel
     ensures { λ r. ⌜ entries r ≡ messages false (bodiesAt (now (store .entry)) at) ⌝ }
 {
     let n = store[at] as usize;
+    let mut entry = at + 1;
     let mut bodies = [0; ROOM];
     let mut i = 0;
     while i < n {
-        bodies[i] = store[at + 1 + layout::CHANNEL_ENTRY_CELLS * i];
+        bodies[i] = store[entry];
+        entry += layout::CHANNEL_ENTRY_CELLS;
         i += 1;
     }
     Channel {

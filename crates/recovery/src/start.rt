@@ -135,7 +135,8 @@ fn admit_store(topology: Topology, store: &[u32]) -> Verdict
     }
 }
 
-// The words, by replaying the message logs on the physical checkpoints.
+// The words, by replaying the message logs on the physical checkpoints. One address is worked out for each process: the
+// count of its log stands after its physical checkpoint.
 fn words(topology: Topology, store: &[u32]) -> [u32; PROCESSES]
     requires { ⌜ recoverRefusal topology (now store) ≡ none ⌝ }
     ensures { λ r. ⌜ wordsSeen r ≡ recoveredWord topology (now (store .entry)) ⌝ }
@@ -144,8 +145,8 @@ fn words(topology: Topology, store: &[u32]) -> [u32; PROCESSES]
     let mut r = [0; PROCESSES];
     let mut p: u8 = 0;
     while p < topology.processes {
-        let word = store[layout::physical_cell(line, p)];
-        r[p as usize] = log::replay_log(store, layout::message_count_cell(line, p), word);
+        let at = layout::physical_cell(line, p);
+        r[p as usize] = log::replay_log(store, at + 1, store[at]);
         p += 1;
     }
     r

@@ -1,29 +1,26 @@
 -- What a store that a restart by its form's rules doesn't refuse has: its cells, and every log of its line within its
--- places. The counts are tested by runs from the first of each kind, and a log's replay goes entry by entry.
+-- places. The counts are tested by runs from the first of each kind.
 use Prim.Native.Nat.{ℕ, _+_, _*_, _<_, _≤_}
 use mathlib.Core.Path.{_≡_, refl, ap, _∙_}
 use mathlib.Core.Bool.{Bool, true, false, not, _&&_}
-use mathlib.Core.List.{List, [], _∷_, map, map-append}
+use mathlib.Core.List.{List, [], _∷_, map}
 use mathlib.Core.Option.{none}
 use lib.ListN.{length}
 use lib.Dec.{leb, ltb}
 use borrow.Author.Tests.{leb-true, lt-ltb, not-false}
 use native.Mathlib.Omega.{arith}
 use Rattle.model.specs.declared.Topology.{Topology}
-use Rattle.model.specs.declared.Receipt.{Receipt}
 use Rattle.model.specs.Notation.{tabulate, allBelow}
 use Rattle.model.specs.Check.{Check, _⇒_, firstRefusal}
 use Rattle.model.specs.Topology.{topologyRefusal}
-use Rattle.model.specs.Word.{replayBy}
 use Rattle.model.specs.Form.{Form, cell, Log, messageLog, channelLog, messagePlaces, channelPlaces, places}
-use Rattle.model.specs.Form.{channelEntryCells, channelCells, entryCell, cellsFrom, entriesFrom, receiptIn}
+use Rattle.model.specs.Form.{channelEntryCells, channelCells, entryCell, cellsFrom, entriesFrom}
 use Rattle.model.specs.Form.{bodyIn, entryCells, processCells, countCell}
 use Rattle.model.specs.Recover.{initializeRefusal, recoverRefusal, storedLine, countFits, countsFit}
 use Rattle.model.proofs.laws.Tests.{and-left, and-right}
-use Rattle.model.proofs.laws.Lists.{all-at, all-cong, or-else-none, tabulate-cong, tabulate-more, map-tabulate}
+use Rattle.model.proofs.laws.Lists.{all-at, all-cong, or-else-none, tabulate-cong, map-tabulate}
 use Rattle.model.proofs.laws.Passing.{passed}
 use Rattle.model.proofs.laws.TopologyLaws.{Planned}
-use Rattle.model.proofs.laws.WordLaws.{replay-snoc}
 use Rattle.model.proofs.store.Sizes.{Sized, admitted, sized-start}
 use Rattle.model.proofs.store.Addresses.{Upto, upto-more, message-cell, channel-cell, in-store, log-within}
 use Rattle.model.proofs.store.Addresses.{count-within}
@@ -116,17 +113,3 @@ unfolding entriesFrom cellsFrom
 bodies-are st at k =
     map-tabulate bodyIn k (λ i. cellsFrom st channelEntryCells (entryCell channelEntryCells at i))
     ∙ tabulate-cong k _ _ (λ i l. ap (cell st) (omega arith))
-
--- the first i receipts of a log whose count stands in the cell `at`, with w cells for an entry, and one more
-abbrev pub receiptsFrom : List ℕ → ℕ → ℕ → ℕ → List Receipt
-receiptsFrom st w at i = map receiptIn (entriesFrom st w at i)
-
-pub replay-more : (rule : ℕ → Receipt → ℕ) (st : List ℕ) (w at i word : ℕ)
-    → replayBy rule word (receiptsFrom st w at (i + 1))
-    ≡ rule (replayBy rule word (receiptsFrom st w at i)) (receiptIn (cellsFrom st w (entryCell w at i)))
-unfolding entriesFrom
-replay-more rule st w at i word =
-    ap (replayBy rule word)
-    (ap (map receiptIn) (tabulate-more i (λ j. cellsFrom st w (entryCell w at j)))
-    ∙ map-append receiptIn (entriesFrom st w at i) _)
-    ∙ replay-snoc rule word (receiptsFrom st w at i) _

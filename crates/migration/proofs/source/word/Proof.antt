@@ -1,38 +1,25 @@
--- `source::word` meets its contract. The loop's invariant: the first i receipts have entered the word, and the running
--- index stands at the next entry.
+-- `source::word` meets its contract: its loop is a replay by a running index.
 use borrow.Author.Needs.{needs}
 use native.Mathlib.Omega.{arith}
-use Prim.Native.Nat.{ℕ, _+_, _-_, _≤_}
+use Prim.Native.Nat.{_+_, _-_, _≤_}
 use lib.ListN.{length}
-use mathlib.Core.Path.{_≡_, refl, sym, _∙_}
-use mathlib.Core.List.{List}
-use Rattle.model.specs.Notation.{tabulate}
-use Rattle.model.specs.Word.{replayBy}
-use Rattle.model.specs.Form as model
-use Rattle.model.specs.Form.{cell, entriesFrom}
-use Rattle.model.proofs.store.Readable.{receiptsFrom, replay-more}
-use Rattle.model.proofs.store.RunningIndex.{RunningIndex, index-starts, index-goes-on, index-inside}
+use Rattle.model.specs.Form.{cell}
+use Rattle.model.proofs.store.RunningIndex.{index-inside}
+use Rattle.model.proofs.store.LogReplay.{LogReplay, replay-starts, replay-goes-on, replay-ends}
 use Rattle.migration.specs.Reading.{formOf}
 use Rattle.migration.proofs.source.word.Statement.{statement}
 use Rattle.migration.proofs.source.word.Tie as tie
 
--- what the first i entries of the log make of the physical checkpoint
-abbrev replayed : model.Form → List ℕ → ℕ → ℕ → ℕ
-replayed F source at i = replayBy (F .enter) (cell source at) (receiptsFrom source (F .messageCells) (at + 1) i)
-
-pub record Replaying (F : model.Form) (source : List ℕ) (at n entry word i : ℕ) : Type 0 where
-  pub index : RunningIndex (at + 1 + 1) (F .messageCells) n entry i
-  pub entered : word ≡ replayed F source at i
-
 abbrev Inv-loop : tie.InvT-loop
-Inv-loop form source at n cells entry₀ word₀ i₀ entry word i = Replaying (formOf form) source at n entry word i
+Inv-loop form source at n cells entry₀ word₀ i₀ entry word i =
+    LogReplay (formOf form .enter) source (formOf form .messageCells) (at + 1) n (cell source at) entry word i
 
 abbrev μ-loop : tie.MeasureT-loop
 μ-loop form source at n cells entry₀ word₀ i₀ entry word i = n - i
 
 loop-holds : tie.Need-loop-holds Inv-loop μ-loop
-unfolding cell tabulate replayBy entriesFrom
-loop-holds c = record { index = index-starts (omega arith); entered = refl }
+unfolding cell
+loop-holds c = replay-starts (omega arith)
 
 cast-n : tie.Need-cast-n Inv-loop μ-loop
 unfolding cell
@@ -60,24 +47,12 @@ add-i c = let turn = c .before .before in omega (arith, turn .loop-test .taken, 
 loop-again : tie.Need-loop-again Inv-loop μ-loop
 loop-again c =
     let turn = c .before .before in
-    let a = begun turn .args in
-    let F : model.Form = formOf (a .form) in
-    let inv = turn .before .loop .inv in
-    record {
-      index = rw (turn .before .before .before .message-cells .ensures)
-          (index-goes-on (inv .index) (turn .loop-test .taken));
-      entered = c .enter .ensures
-          ∙ rw (c .before .receipt .ensures, inv .index .stands, inv .entered)
-          (sym (replay-more (F .enter) (a .source .now) (F .messageCells) (a .at + 1) (turn .before .loop .i)
-          (cell (a .source .now) (a .at))));
-    }
+    rw (turn .before .before .before .message-cells .ensures, c .enter .ensures, c .before .receipt .ensures)
+    (replay-goes-on (turn .before .loop .inv) (turn .loop-test .taken))
 
 returns : tie.Need-returns Inv-loop μ-loop
 unfolding cell
-returns c =
-    let a = c .before .before .before .before .before .before .args in
-    let e : c .before .loop .i ≡ cell (a .source .now) (a .at + 1) = omega (arith, c .before .loop .inv .index .within) in
-    rw e at (c .before .loop .inv .entered)
+returns c = replay-ends (c .before .loop .inv) (c .loop-test .left)
 
 pub word-spec : {M : Type 1} → statement M
 word-spec =

@@ -1,7 +1,7 @@
 -- `recovery::start::words` meets its contract. The loop's invariant: the words of the first p processes are there, and
 -- the others are 0.
-use Prim.Native.Nat.{ℕ, _-_, _<_, _≤_}
-use mathlib.Core.Path.{_≡_, refl, ap₂, _∙_}
+use Prim.Native.Nat.{ℕ, _+_, _-_, _<_, _≤_}
+use mathlib.Core.Path.{_≡_, refl, ap, _∙_}
 use borrow.Author.Needs.{needs}
 use native.Mathlib.Omega.{arith}
 use lib.ListN.{length, getD, length-set}
@@ -50,23 +50,23 @@ loop-holds c =
     (omega arith, refl, seen-replicate processLimit 0 ∙ filled-none (wordOf st) 0)
 
 replay-log-requires : tie.Need-replay-log-requires Inv-loop μ-loop
-unfolding storedLine cell
+unfolding storedLine cell form.physicalCell form.countCell
 replay-log-requires c κs =
-    let t = c .before .before .before in
-    rw (c .message-count-cell .ensures) (last-in-store (known (start t)) (messageLog (at t)) (t .if1 .taken))
+    let t = c .before .before in
+    rw (c .before .physical-cell .ensures) (last-in-store (known (start t)) (messageLog (at t)) (t .if1 .taken))
 
 array-write-r : tie.Need-array-write-r Inv-loop μ-loop
-array-write-r c = omega (arith, known (start (c .before .before .before .before)) .sized .processes)
+array-write-r c = omega (arith, known (start (c .before .before .before)) .sized .processes)
 
 loop-again : tie.Need-loop-again Inv-loop μ-loop
-unfolding storedLine cell recovery.restored recovery.restoredBy form.receiptsBy form.entriesBy
+unfolding storedLine cell recovery.restored recovery.restoredBy form.receiptsBy form.entriesBy form.physicalCell
+    form.countCell
 loop-again c =
-    let t = c .before .before .before .before in
+    let t = c .before .before .before in
     let l = t .before .before .loop in
     let st = start t .args .store .now in
     let word : c .replay-log .result ≡ wordOf st (at t) = c .replay-log .ensures
-    ∙ ap₂ (λ (a b : ℕ). replay (cell st a) (receiptsAt st b))
-    (c .before .before .before .physical-cell .ensures) (c .before .message-count-cell .ensures) in
+    ∙ ap (λ (a : ℕ). replay (cell st a) (receiptsAt st (a + 1))) (c .before .before .physical-cell .ensures) in
     let inside : at t < length (l .r) = omega (arith, known (start t) .sized .processes) in (
       omega arith,
       simp length-set (l .inv .1),
@@ -90,8 +90,8 @@ words-spec =
     loop-holds
     (λ c κs. search needs)
     (λ c. omega (arith, physical-in c))
+    (λ c. omega (arith, physical-in c))
     (λ c. physical-in (c .before))
-    (λ c κs. search needs)
     replay-log-requires
     (λ c. search needs)
     (λ c. search needs)
