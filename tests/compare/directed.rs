@@ -38,7 +38,11 @@ pub fn calls() -> Vec<List> {
         wire_orders(&mut lists, program);
         for times in 1..=2 {
             let bytes = encode(program, &plans::largest(), &full_logs(times));
-            lists.push(list(format!("{program:?}: every log full, {times} times"), program, bytes));
+            lists.push(list(
+                format!("{program:?}: every log full, rounds: {times}"),
+                program,
+                bytes,
+            ));
         }
     }
     lists

@@ -85,7 +85,7 @@ fn runs(lists: &mut Vec<List>, (asked, form, _): Way) {
     let largest = plans::largest();
     for times in 1..=2 {
         let source = left_by(form, &largest, &full_logs(times));
-        both(lists, &format!("store with every log full, {times} times"), source.input(asked));
+        both(lists, &format!("store with every log full, rounds: {times}"), source.input(asked));
     }
 }
 
