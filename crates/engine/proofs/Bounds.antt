@@ -12,7 +12,7 @@ use Rattle.model.specs.declared.State.{State}
 use Rattle.model.specs.declared.Channel.{Channel}
 use Rattle.model.specs.declared.Entry.{Entry}
 use Rattle.model.specs.Topology.{processLimit, channelLimit, sender, receiver, topologyRefusal}
-use Rattle.model.specs.Channel.{channelRoom, entries}
+use Rattle.model.specs.Channel.{channelRoom, roomLeft, entries}
 use Rattle.model.specs.Phase.{isIdle}
 use Rattle.model.specs.Layout.{present, storeCells, messagePlaces, channelPlaces, messageLog, channelLog}
 use Rattle.model.specs.State.{view, viewCounts}
@@ -26,6 +26,10 @@ use Rattle.engine.proofs.Views.{channel-read}
 -- a channel's count is the number of its entries
 pub count-fits : (x : Channel) (es : List Entry) → es ≡ entries x → length es ≤ channelRoom → x .count ≤ channelRoom
 count-fits x es e l = omega (arith, ap length e, entries-count x)
+
+-- so where there is room left, there is a free place
+pub place-free : (x : Channel) {r : ℕ} → r ≡ roomLeft (entries x) → (r ≡ 0 → ⊥) → x .count < channelRoom
+place-free x e h = omega (arith, e, h, entries-count x)
 
 module _ (s : State) (h : sound (view s) ≡ true) where
   facts : Sound (view s)

@@ -4,9 +4,9 @@ use crate::refusal;
 use model::Answer;
 use model::Entry;
 use model::Outcome;
-use model::ROOM;
 use model::Refusal;
 use model::State;
+use rules::channel;
 ghost use mathlib.Core.Path.{_≡_};
 ghost use mathlib.Core.Bool.{true};
 ghost use Rattle.model.specs.State.{view};
@@ -24,7 +24,7 @@ pub fn send(mut s: State, channel: u8, body: u32) -> Answer
     }
     let at = channel as usize;
     let c = s.channels[at];
-    if ROOM <= c.count as usize {
+    if channel::room(c) == 0 {
         return refusal::refused(s, Refusal::ChannelFull);
     }
     let from = t.from[at] as usize;

@@ -4,9 +4,9 @@ use crate::refusal;
 use model::Answer;
 use model::Entry;
 use model::Outcome;
-use model::ROOM;
 use model::Refusal;
 use model::State;
+use rules::channel;
 use rules::phase;
 ghost use mathlib.Core.Path.{_≡_};
 ghost use mathlib.Core.Bool.{true};
@@ -32,7 +32,7 @@ pub fn send_marker(mut s: State, channel: u8) -> Answer
         return refusal::refused(s, Refusal::NotNow);
     }
     let c = s.channels[at];
-    if ROOM <= c.count as usize {
+    if channel::room(c) == 0 {
         return refusal::refused(s, Refusal::ChannelFull);
     }
     f.sent[at] = true;

@@ -7,7 +7,7 @@ use mathlib.Core.List.{List, [], _∷_, _++_}
 use mathlib.Core.Option.{none}
 use lib.ListN.{length, length-append, length-map}
 use lib.Dec.{ltb, leb, eqb}
-use borrow.Author.Tests.{leb-true, leb-false, le-leb, lt-ltb, not-false}
+use borrow.Author.Tests.{leb-true, leb-false, le-leb, lt-ltb, eqb-false, not-false}
 use native.Mathlib.Omega.{arith}
 use Rattle.model.specs.declared.Topology.{Topology}
 use Rattle.model.specs.declared.Phase.{Phase}
@@ -19,7 +19,8 @@ use Rattle.model.specs.declared.Step.the-variants.{Send, Receive, Begin,
 use Rattle.model.specs.declared.Step.the-variants.{LogicalCheckpoint, SendMarker, Commit, Abort}
 use Rattle.model.specs.Notation.{upd, allBelow}
 use Rattle.model.specs.Topology.{receiver, hasProcess, hasChannel, topologyRefusal}
-use Rattle.model.specs.Channel.{channelRoom, bodies, messages, noRoom, noRoomForMessage, noRoomForMarker}
+use Rattle.model.specs.Channel.{channelRoom, roomLeft, bodies, messages, noRoom}
+use Rattle.model.specs.Channel.{noRoomForMessage, noRoomForMarker}
 use Rattle.model.specs.Phase.{isIdle, isNext}
 use Rattle.model.specs.Layout.{present, Log, messageLog, channelLog, places, entriesFrom}
 use Rattle.model.specs.State.{GlobalState, LogCounts, countOf, raised, raisedAll, idleState, noCounts, noProgress}
@@ -72,7 +73,7 @@ one-more : (s : GlobalState) (c : ℕ) (e : Entry) → Sound s → noRoom (s .ch
 unfolding noRoom
 one-more s c e h room =
     upd-all (λ es. length es ≤ channelRoom) (s .topology .channels) (s .channel) c (s .channel c ++ (e ∷ []))
-    (rw (length-append (s .channel c) (e ∷ [])) (omega (arith, leb-false channelRoom (length (s .channel c)) room)))
+    (rw (length-append (s .channel c) (e ∷ [])) (omega (arith, eqb-false (roomLeft (s .channel c)) 0 room)))
     (entries-fit s h)
 
 -- logs count one entry more, where they aren't full

@@ -1,10 +1,10 @@
 -- Document 01's wire: a first in first out list of entries, each a message (body and tag) or a marker (note). The
 -- code's array is seen as that list.
-use Prim.Native.Nat.{ℕ}
+use Prim.Native.Nat.{ℕ, _-_}
 use mathlib.Core.Bool.{Bool, true, false, cond}
 use mathlib.Core.List.{List, [], _∷_, map}
 use lib.ListN.{getD, length}
-use lib.Dec.{eqb, leb}
+use lib.Dec.{eqb}
 use Rattle.model.specs.declared.Channel.{Channel}
 use Rattle.model.specs.declared.Entry.{Entry}
 use Rattle.model.specs.declared.Entry.the-variants.{Message, Marker}
@@ -44,9 +44,18 @@ markerless (Marker ∷ es) = false
 unfoldable pub messages : Bool → List ℕ → List Entry
 messages t bs = map (λ b. Message b t) bs
 
+-- How much of a channel's room entries take up: a place each, a marker too. What there is room for, and what is too
+-- much (refusals 9 and 15), rests on this alone.
+abbrev pub occupied : List Entry → ℕ
+occupied es = length es
+
+-- how many entries a channel that has these can still hold
+abbrev pub roomLeft : List Entry → ℕ
+roomLeft es = channelRoom - occupied es
+
 -- "9 wire holds 8 entries": there is no room for one more
 unfoldable pub noRoom : List Entry → Bool
-noRoom es = leb channelRoom (length es)
+noRoom es = eqb (roomLeft es) 0
 
 -- for a message, and for a marker
 unfoldable pub noRoomForMessage : List Entry → Bool

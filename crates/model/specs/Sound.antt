@@ -4,7 +4,6 @@
 use Prim.Native.Nat.{ℕ}
 use mathlib.Core.Bool.{Bool, true, not, _||_}
 use mathlib.Core.List.{List, [], _∷_}
-use lib.ListN.{length}
 use lib.Dec.{leb, eqb}
 use Rattle.model.specs.declared.Phase.{Phase}
 use Rattle.model.specs.declared.Phase.the-variants.{Idle, Physical, Logical}
@@ -14,7 +13,7 @@ use Rattle.model.specs.declared.Entry.{Entry}
 use Rattle.model.specs.Notation.{allBelow, allTrue}
 use Rattle.model.specs.Check.{accepts}
 use Rattle.model.specs.Topology.{topologyRefusal, hasProcess}
-use Rattle.model.specs.Channel.{channelRoom}
+use Rattle.model.specs.Channel.{channelRoom, occupied}
 use Rattle.model.specs.Phase.{isIdle}
 use Rattle.model.specs.Layout.{Log, messageLog, channelLog, places}
 use Rattle.model.specs.State.{GlobalState, LogCounts, countOf}
@@ -30,7 +29,7 @@ topologySound T = accepts (topologyRefusal T)
 -- "a planned wire has over 8 entries": channel c of the topology, in this phase, with its marker sent or not, closed or
 -- not, and with these entries. Only the entries count so far.
 unfoldable pub channelSound : Topology → Phase → Bool → Bool → ℕ → List Entry → Bool
-channelSound T phase sent closed c es = leb (length es) channelRoom
+channelSound T phase sent closed c es = leb (occupied es) channelRoom
 
 -- "the log of a planned board or wire is over its places"
 unfoldable pub logSound : LogCounts → Log → Bool

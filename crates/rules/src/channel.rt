@@ -1,8 +1,8 @@
-// A channel (document 01's wire) by value: what a place holds, and a channel with no entry.
+// A channel (document 01's wire) by value: what a place holds, how much room is left, and a channel with no entry.
 use model::Channel;
 use model::Entry;
 ghost use mathlib.Core.Path.{_≡_};
-ghost use Rattle.model.specs.Channel.{entryOf, entryAt};
+ghost use Rattle.model.specs.Channel.{entryOf, entryAt, entries, roomLeft};
 ghost use Rattle.model.specs.State.{emptyChannel};
 
 // How many entries a channel has room for, as a count.
@@ -39,4 +39,14 @@ pub fn entry_at(c: Channel, i: u8) -> Entry
     }
     let at = i as usize;
     entry_of(c.kinds[at], c.bodies[at])
+}
+
+// How many entries a channel can still hold.
+pub fn room(c: Channel) -> u8
+    ensures { λ r. ⌜ r ≡ roomLeft (entries c) ⌝ }
+{
+    if ROOM <= c.count {
+        return 0;
+    }
+    ROOM - c.count
 }

@@ -1,9 +1,9 @@
 -- `engine::send::send` meets its contract, in each of its cases.
 use borrow.Author.Needs.{needs}
-use borrow.Author.Tests.{lt-ltb, le-ltb, le-leb, lt-leb}
+use borrow.Author.Tests.{lt-ltb, le-ltb, eq-eqb, ne-eqb}
 use native.Mathlib.Omega.{arith}
 use Prim.Native.Nat.{ℕ, _<_, _≤_}
-use mathlib.Core.Path.{_≡_, _∙_, ap}
+use mathlib.Core.Path.{_≡_, sym, _∙_, ap}
 use mathlib.Core.Bool.{false}
 use mathlib.Core.List.{List, [], _∷_, _++_}
 use mathlib.Core.Option.{none, some}
@@ -16,12 +16,11 @@ use Rattle.model.specs.declared.Step.the-variants.{Send}
 use Rattle.model.specs.Outcome as says
 use Rattle.model.specs.Check.{firstRefusal}
 use Rattle.model.specs.Topology.{processLimit, channelLimit, sender, hasChannel}
-use Rattle.model.specs.Channel.{channelRoom, entries, noRoom, noRoomForMessage}
+use Rattle.model.specs.Channel.{roomLeft, entries, noRoom, noRoomForMessage}
 use Rattle.model.specs.State.{view}
 use Rattle.model.specs.Change.{setEntries}
 use Rattle.model.specs.Step.{priorChecks, roomChecks, logChecks, ownChecks, effect, quietly}
-use Rattle.model.proofs.laws.ChannelLaws.{entries-count}
-use Rattle.engine.proofs.Bounds.{channel-bound, sender-bound, receiver-bound}
+use Rattle.engine.proofs.Bounds.{place-free, channel-bound, sender-bound, receiver-bound}
 use Rattle.engine.proofs.Lengths.{lengths}
 use Rattle.engine.proofs.Views.{channel-read, channel-set}
 use Rattle.engine.proofs.Promises.{quiet-refused, quiet-done}
@@ -36,13 +35,13 @@ module _ (s : State) (c b : ℕ) where
 
   -- on a channel of the topology, whose places are those of x
   module _ (l : c < s .topology .channels) (x : Channel) (e : view s .channel c ≡ entries x) where
-    full : channelRoom ≤ x .count → firstRefusal (ownChecks (view s) (Send c b)) ≡ some 9
+    full : roomLeft (entries x) ≡ 0 → firstRefusal (ownChecks (view s) (Send c b)) ≡ some 9
     unfolding ownChecks priorChecks roomChecks logChecks hasChannel noRoomForMessage noRoom firstRefusal view
-    full k = rw (lt-ltb c (s .topology .channels) l, e, entries-count x, le-leb channelRoom (x .count) k)
+    full k = rw (lt-ltb c (s .topology .channels) l, e, eq-eqb (roomLeft (entries x)) 0 k)
 
-    passed : x .count < channelRoom → firstRefusal (ownChecks (view s) (Send c b)) ≡ none
+    passed : (roomLeft (entries x) ≡ 0 → ⊥) → firstRefusal (ownChecks (view s) (Send c b)) ≡ none
     unfolding ownChecks priorChecks roomChecks logChecks hasChannel noRoomForMessage noRoom firstRefusal view
-    passed k = rw (lt-ltb c (s .topology .channels) l, e, entries-count x, lt-leb channelRoom (x .count) k)
+    passed k = rw (lt-ltb c (s .topology .channels) l, e, ne-eqb (roomLeft (entries x)) 0 k)
 
     done : effect (view s) (Send c b)
         ≡ quietly says.done
@@ -67,11 +66,12 @@ returns c =
 
 returns-2 : tie.Need-returns-2
 returns-2 c =
-    let d = c .before .before .before .before in
+    let asked = c .before .before in
+    let d = asked .before .before in
     let a = start d .args in
     quiet-refused (a .t1) _ _
     (full (a .t1) (a .channel) (a .body) (d .if1 .left) _ (channel-read (a .t1) (a .channel) (within d) _)
-    (c .before .if2 .taken))
+    (sym (asked .room .ensures) ∙ c .before .if2 .taken))
     (c .refused2 .ensures)
 
 -- past both refusals
@@ -95,7 +95,7 @@ returns-3 c =
     let d = planned e in
     let a = start d .args in
     let read = channel-read (a .t1) (a .channel) (within d) _ in
-    quiet-done (a .t1) _ (passed (a .t1) (a .channel) (a .body) (d .if1 .left) _ read (e .if2 .left)) _
+    quiet-done (a .t1) _ (passed (a .t1) (a .channel) (a .body) (d .if1 .left) _ read (λ none. e .if2 .left (e .before .room .ensures ∙ none))) _
     (done (a .t1) (a .channel) (a .body) (d .if1 .left) _ read) _
     (channel-set (a .t1) (a .channel) (within d) (c .push .result)
     ∙ ap (λ (es : List Entry). setEntries (a .channel) es (view (a .t1))) (c .push .ensures))
@@ -114,7 +114,7 @@ send-spec =
     (λ c. below (planned c))
     (λ c. omega (arith, sender-within (c .before), receiver-within (c .before)))
     (λ c. omega (arith, sender-within (c .before), receiver-within (c .before)))
-    (λ c κs. search needs)
+    (λ c κs. place-free _ (c .before .before .before .room .ensures) (c .before .before .if2 .left))
     (λ c. search needs)
     (λ c. below (planned (c .before .before .before)))
     returns-3)

@@ -1,9 +1,9 @@
 -- `engine::send_marker::send_marker` meets its contract, in each of its cases.
 use borrow.Author.Needs.{needs}
-use borrow.Author.Tests.{lt-ltb, le-ltb, le-leb, lt-leb, not-true, not-false}
+use borrow.Author.Tests.{lt-ltb, le-ltb, eq-eqb, ne-eqb, not-true, not-false}
 use native.Mathlib.Omega.{arith}
 use Prim.Native.Nat.{ℕ, _<_, _≤_}
-use mathlib.Core.Path.{_≡_, ap, _∙_}
+use mathlib.Core.Path.{_≡_, sym, ap, _∙_}
 use mathlib.Core.Bool.{true, false}
 use mathlib.Core.List.{List, [], _∷_, _++_}
 use mathlib.Core.Option.{none, some}
@@ -16,12 +16,11 @@ use Rattle.model.specs.declared.Step.the-variants.{SendMarker}
 use Rattle.model.specs.Outcome as says
 use Rattle.model.specs.Check.{firstRefusal}
 use Rattle.model.specs.Topology.{processLimit, channelLimit, sender, hasChannel}
-use Rattle.model.specs.Channel.{channelRoom, entries, noRoom, noRoomForMarker}
+use Rattle.model.specs.Channel.{roomLeft, entries, noRoom, noRoomForMarker}
 use Rattle.model.specs.State.{view, viewProgress}
 use Rattle.model.specs.Change.{setEntries, recordSent}
 use Rattle.model.specs.Step.{maySendMarker, priorChecks, roomChecks, logChecks, ownChecks, effect, quietly}
-use Rattle.model.proofs.laws.ChannelLaws.{entries-count}
-use Rattle.engine.proofs.Bounds.{channel-bound, sender-bound}
+use Rattle.engine.proofs.Bounds.{place-free, channel-bound, sender-bound}
 use Rattle.engine.proofs.Lengths.{lengths}
 use Rattle.engine.proofs.Views.{channel-read, marker-set}
 use Rattle.engine.proofs.Promises.{quiet-refused, quiet-done}
@@ -42,13 +41,13 @@ module _ (s : State) (c : ℕ) where
 
     -- where it may be sent, and the channel's places are those of x
     module _ (t : maySendMarker (view s) c ≡ true) (x : Channel) (e : view s .channel c ≡ entries x) where
-      full : channelRoom ≤ x .count → firstRefusal (ownChecks (view s) (SendMarker c)) ≡ some 9
+      full : roomLeft (entries x) ≡ 0 → firstRefusal (ownChecks (view s) (SendMarker c)) ≡ some 9
       unfolding ownChecks priorChecks roomChecks logChecks hasChannel noRoomForMarker noRoom firstRefusal view
-      full k = rw (lt-ltb c (s .topology .channels) l, t, e, entries-count x, le-leb channelRoom (x .count) k)
+      full k = rw (lt-ltb c (s .topology .channels) l, t, e, eq-eqb (roomLeft (entries x)) 0 k)
 
-      passed : x .count < channelRoom → firstRefusal (ownChecks (view s) (SendMarker c)) ≡ none
+      passed : (roomLeft (entries x) ≡ 0 → ⊥) → firstRefusal (ownChecks (view s) (SendMarker c)) ≡ none
       unfolding ownChecks priorChecks roomChecks logChecks hasChannel noRoomForMarker noRoom firstRefusal view
-      passed k = rw (lt-ltb c (s .topology .channels) l, t, e, entries-count x, lt-leb channelRoom (x .count) k)
+      passed k = rw (lt-ltb c (s .topology .channels) l, t, e, ne-eqb (roomLeft (entries x)) 0 k)
 
       done : effect (view s) (SendMarker c)
           ≡ quietly says.done (recordSent c (setEntries c (entries x ++ (Marker ∷ [])) (view s)))
@@ -108,21 +107,25 @@ module _ (e : tie.Else2) where
 
 returns-3 : tie.Need-returns-3
 returns-3 c =
-    let e = c .before .before .before .before in
+    let asked = c .before .before in
+    let e = asked .before .before in
     quiet-refused (state (p e)) _ _
-    (full (state (p e)) (channel (p e)) (p e .if1 .left) (allowed e) _ (read e _) (c .before .if3 .taken))
+    (full (state (p e)) (channel (p e)) (p e .if1 .left) (allowed e) _ (read e _)
+    (sym (asked .room .ensures) ∙ c .before .if3 .taken))
     (c .refused3 .ensures)
 
-abbrev roomy : tie.Else3 → tie.Else2
-roomy r = r .before .before .before
+abbrev past : tie.Else3 → tie.Else2
+past r = r .before .before .before
 
 returns-4 : tie.Need-returns-4
 returns-4 c =
-    let e = roomy (c .before) in
+    let e = past (c .before) in
     let s = state (p e) in
     let i = channel (p e) in
     let sent : i < length (s .flags .sent) = omega (arith, below (p e), lengths s _ (start (p e) .good .0) .sent) in
-    quiet-done s _ (passed s i (p e .if1 .left) (allowed e) _ (read e _) (c .before .if3 .left)) _
+    quiet-done s _
+    (passed s i (p e .if1 .left) (allowed e) _ (read e _)
+    (λ none. c .before .if3 .left (c .before .before .room .ensures ∙ none))) _
     (done s i (p e .if1 .left) (allowed e) _ (read e _)) _
     (marker-set s i (within (p e)) sent (c .push .result)
     ∙ ap (λ (es : List Entry). recordSent i (setEntries i es (view s))) (c .push .ensures))
@@ -145,8 +148,8 @@ send-marker-spec =
     (λ c. search needs)
     (λ c κs. search needs)
     returns-3
-    (λ c. below (p (roomy c)))
-    (λ c κs. search needs)
+    (λ c. below (p (past c)))
+    (λ c κs. place-free _ (c .before .room .ensures) (c .if3 .left))
     (λ c. search needs)
-    (λ c. below (p (roomy (c .before))))
+    (λ c. below (p (past (c .before))))
     returns-4)
