@@ -42,6 +42,7 @@ fn scripted(b: &[u8], turn: u32) -> Step {
 fn outcome_code(outcome: Outcome) -> u32 {
     match outcome {
         Outcome::Done => 1,
+        Outcome::Sent(room) => 200 + room as u32,
         Outcome::Received(body) => body,
         Outcome::ReceivedMarker => 2,
         Outcome::Refused(refusal) => 100 + refusal as u32,
@@ -148,14 +149,15 @@ fn call(b: &[u8], turn: u32) -> Record {
     }
 }
 
-/// Place and number of the first refusal, or the number alone; then the part.
+/// Place and number of the first refusal, or the number alone; then the part, and what its sends say of room.
 fn reduced_sum(sum: u32, reduced: &Reduced) -> u32 {
     let sum = match reduced.found {
         Found::Failure(place, refusal) => fold(fold(sum, place as u32), refusal as u32),
         Found::Refused(refusal) => fold(sum, refusal as u32),
     };
     let part = &reduced.part;
-    part.places.iter().fold(fold(sum, part.count as u32), |sum, &place| fold(sum, place as u32))
+    let bytes = part.places.iter().chain(&reduced.rooms);
+    bytes.fold(fold(sum, part.count as u32), |sum, &byte| fold(sum, byte as u32))
 }
 
 fn reductions<E: Engine>(t: &Topology, times: u32, script: &[u8]) -> u32 {

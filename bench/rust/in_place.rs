@@ -94,7 +94,7 @@ impl State {
 
     fn perform(&mut self, step: Step, power: &mut Power) -> Result<Outcome, Stop> {
         match step {
-            Step::Send { channel, body } => self.send(channel, body)?,
+            Step::Send { channel, body } => return self.send(channel, body),
             Step::Receive { channel } => return self.receive(channel, power),
             Step::Begin => self.begin(power)?,
             Step::PhysicalCheckpoint { process } => self.physical_checkpoint(process, power)?,
@@ -106,13 +106,13 @@ impl State {
         Ok(Outcome::Done)
     }
 
-    fn send(&mut self, channel: u8, body: u32) -> Result<(), Stop> {
+    fn send(&mut self, channel: u8, body: u32) -> Result<Outcome, Stop> {
         require(channel < self.topology.channels, Refusal::NoSuch)?;
         let at = channel as usize;
         require((self.channels[at].count as usize) < ROOM, Refusal::ChannelFull)?;
         let tag = self.tags[self.topology.from[at] as usize];
         self.channels[at].push(Entry::Message { body, tag });
-        Ok(())
+        Ok(Outcome::Sent(ROOM as u8 - self.channels[at].count))
     }
 
     fn receive(&mut self, channel: u8, power: &mut Power) -> Result<Outcome, Stop> {

@@ -63,44 +63,57 @@ pub enum Found {
     Refused(Refusal),
 }
 
-/// With it a smallest part that fails so, and how many replays that took, the first run of the list among them.
+/// With it a smallest part that fails so, the room that each of its calls says is left, and how many replays that took,
+/// the first run of the list among them.
 pub struct Reduced {
     pub found: Found,
     pub part: Part,
+    pub rooms: [u8; LISTED],
     pub replays: u32,
 }
 
 fn refused(refusal: Refusal, replays: u32) -> Reduced {
-    Reduced { found: Found::Refused(refusal), part: Part::first(0), replays }
+    let found = Found::Refused(refusal);
+    Reduced { found, part: Part::first(0), rooms: [0; LISTED], replays }
 }
 
-/// One call with full power: why it is refused.
-fn refusal<E: Engine>(
+/// One call with full power: the room that it says is left, 0 where it is no send; or why it is refused.
+fn answer<E: Engine>(
     engine: &mut E,
     t: &Topology,
     call: Record,
     store: &mut [u32],
-) -> Option<Refusal> {
+) -> Result<u8, Refusal> {
     match call {
         Record::Call(step) => match engine.step(step, store, u32::MAX).0 {
-            Outcome::Refused(refusal) => Some(refusal),
-            _ => None,
+            Outcome::Refused(refusal) => Err(refusal),
+            Outcome::Sent(room) => Ok(room),
+            _ => Ok(0),
         },
-        Record::Recover => engine.recover(t, store).err(),
+        Record::Recover => engine.recover(t, store).map(|()| 0),
     }
 }
 
-/// A part run from setup, in a store of zeros, up to its first refusal: which of its calls that is, and the refusal.
-fn replay<E: Engine>(t: &Topology, list: &CallList, part: &Part) -> Option<(u16, Refusal)> {
+/// How a run ends: which call of the part is refused, if one is, and its refusal; and the room that the calls before it
+/// say is left.
+struct Replayed {
+    end: Option<(u16, Refusal)>,
+    rooms: [u8; LISTED],
+}
+
+/// A part run from setup, in a store of zeros, up to its first refusal.
+fn replay<E: Engine>(t: &Topology, list: &CallList, part: &Part) -> Replayed {
     let mut store = [0; STORE_CELLS];
     let mut engine = E::initialize(t, &mut store);
+    let mut rooms = [0; LISTED];
     for i in 0..part.count {
         let call = list.calls[part.places[i as usize] as usize];
-        if let Some(refusal) = refusal(&mut engine, t, call, &mut store) {
-            return Some((i, refusal));
+        match answer(&mut engine, t, call, &mut store) {
+            Ok(room) => rooms[i as usize] = room,
+            Err(refusal) => return Replayed { end: Some((i, refusal)), rooms },
         }
     }
-    None
+    Replayed { end: None, rooms }
 }
 
 /// A list that fails with a refusal, and the replays so far.
@@ -115,7 +128,7 @@ impl Failing<'_> {
     /// Whether a part's last call is its first refused one, with the same refusal.
     fn fails<E: Engine>(&mut self, part: &Part) -> bool {
         self.replays += 1;
-        replay::<E>(self.topology, self.list, part) == Some((part.count - 1, self.refusal))
+        replay::<E>(self.topology, self.list, part).end == Some((part.count - 1, self.refusal))
     }
 
     /// One pass over blocks of a size, from the last to the first; the last call stays.
@@ -155,10 +168,11 @@ pub fn reduce<E: Engine>(t: &Topology, list: &CallList) -> Reduced {
     if let Err(refusal) = check(t) {
         return refused(refusal, 0);
     }
-    let Some((place, refusal)) = replay::<E>(t, list, &Part::first(list.count)) else {
+    let Some((place, refusal)) = replay::<E>(t, list, &Part::first(list.count)).end else {
         return refused(Refusal::NothingRefused, 1);
     };
     let mut failing = Failing { topology: t, list, refusal, replays: 1 };
     let part = failing.shrink::<E>(Part::first(place + 1));
-    Reduced { found: Found::Failure(place, refusal), part, replays: failing.replays }
+    let rooms = replay::<E>(t, list, &part).rooms;
+    Reduced { found: Found::Failure(place, refusal), part, rooms, replays: failing.replays + 1 }
 }

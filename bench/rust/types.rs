@@ -113,6 +113,7 @@ pub enum Refusal {
 #[derive(Clone, Copy)]
 pub enum Outcome {
     Done,
+    Sent(u8),
     Received(u32),
     ReceivedMarker,
     Refused(Refusal),

@@ -15,10 +15,11 @@ type Case = (&'static str, fn() -> bool);
 
 /// Tries every case: how many there are, or the names of those that fail.
 pub fn all() -> Result<usize, Vec<&'static str>> {
-    let cases: [Case; 30] = [
+    let cases: [Case; 31] = [
         ("the listing", listing),
         ("one board gives line 1", one_board),
         ("8th entry passes, 9th send is 9; empty wire is 10", wire_full),
+        ("a send answers the room left, a note takes some", room_left),
         ("64th logged take passes, 65th is 11", message_log_full),
         ("8th logged take of a wire log passes, 9th is 11", channel_log_full),
         ("finish with 0 and 1 stores", finish_cut),
@@ -79,7 +80,13 @@ impl Rig {
     }
 
     fn done(&mut self, steps: &[Step]) -> bool {
-        steps.iter().all(|&step| self.step(step) == Outcome::Done)
+        let done = |outcome| matches!(outcome, Outcome::Done | Outcome::Sent(_));
+        steps.iter().all(|&step| done(self.step(step)))
+    }
+
+    /// So many sends leave room for fewer and fewer entries, the last for so many.
+    fn filling(&mut self, channel: usize, sends: usize, last: usize) -> bool {
+        (0..sends).rev().all(|more| self.step(send(channel, 1)) == Outcome::Sent(last + more))
     }
 
     fn recovered(&self) -> State {
@@ -115,7 +122,17 @@ fn one_board() -> bool {
 fn wire_full() -> bool {
     let mut rig = Rig::pair();
     let empty = rig.step(receive(0)) == Outcome::Refused(10);
-    empty && rig.done(&[send(0, 1); 8]) && rig.step(send(0, 1)) == Outcome::Refused(9)
+    empty && rig.filling(0, 8, 0) && rig.step(send(0, 1)) == Outcome::Refused(9)
+}
+
+/// The other channel's entries don't count; a marker does, and what is taken is free again.
+fn room_left() -> bool {
+    let mut rig = Rig::pair();
+    let apart = rig.filling(0, 3, 5) && rig.filling(1, 2, 6);
+    let marking = rig.done(&[Step::Begin, copy(0), copy(1), mark(0), note(0)]);
+    let beside = rig.filling(0, 2, 2) && rig.filling(1, 1, 5);
+    let taken = rig.step(receive(0)) == Outcome::Took(1);
+    apart && marking && beside && taken && rig.filling(0, 3, 0)
 }
 
 /// Sends and receives by turns; the n-th receive is the first refused, with 11.

@@ -15,8 +15,8 @@ const BOTH: [Program; 2] = [Program::Head, Program::Drill];
 pub const LISTING: &[u8] = b"\x02\x02\x00\x01\x01\x00\x01\x03\x01\x04\x03\x04\x01\
     \x0D\x01\x01\x05\x00\x00\x00\x01\x05\x09\x01\x07\x00\x00\x00\x01\x02\x05\x02\x01\
     \x01\x06\x05\x06\x01\x01\x02\x05\x02\x01\x01\x07\x01\x09";
-pub const LISTING_OUTPUT: &str = "1 done 4\n2 done 1\n3 done 1\n4 done 0\n5 done 0\n\
-    6 done 0\n7 took 7 0\n8 took 5 2\n9 done 0\n10 done 0\n11 note 0\n12 note 0\n\
+pub const LISTING_OUTPUT: &str = "1 done 4\n2 done 1\n3 done 1\n4 sent 7 0\n5 done 0\n\
+    6 sent 7 0\n7 took 7 0\n8 took 5 2\n9 done 0\n10 done 0\n11 note 0\n12 note 0\n\
     13 done 1\n14 line 1 0\nboard 0 0\nboard 1 0\nwire 0 0\nwire 1 1 5\n";
 
 fn list(name: String, program: Program, bytes: Vec<u8>) -> List {
@@ -38,11 +38,8 @@ pub fn calls() -> Vec<List> {
         wire_orders(&mut lists, program);
         for times in 1..=2 {
             let bytes = encode(program, &plans::largest(), &full_logs(times));
-            lists.push(list(
-                format!("{program:?}: every log full, rounds: {times}"),
-                program,
-                bytes,
-            ));
+            let name = format!("{program:?}: every log full, rounds: {times}");
+            lists.push(list(name, program, bytes));
         }
     }
     lists
@@ -123,8 +120,7 @@ fn plan_bytes(lists: &mut Vec<List>, program: Program) {
 
 /// Every bit map with every kind, its fields not 0 or all 0, before a begin.
 fn record_bytes(lists: &mut Vec<List>, program: Program) {
-    let maps = (0..32).chain([33, 65, 129, 255]);
-    for map in maps {
+    for map in (0..32).chain([33, 65, 129, 255]) {
         for kind in [0, 1, 2, 3, 4, 5, 6, 7, 8, 9, 10, 255] {
             for fill in [0, 1] {
                 let mut bytes = pair().write();

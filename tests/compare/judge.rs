@@ -1,7 +1,7 @@
 //! Judges what `console` prints. Which smallest part comes back is left open, so
 //! a part is held against M-100's definition; all else is told byte for byte.
 
-use crate::seen::{Seen, Sight};
+use crate::seen::{Seen, Sight, IN_A_PART};
 use crate::watcher;
 use reference::console::{Question, REDUCE};
 use reference::program::Program;
@@ -76,6 +76,9 @@ fn count_part(question: &Question, part: &[usize], seen: &mut Seen) {
     let mut count = |sight| seen.count(Program::Console, sight);
     count(watcher::refusal(watcher::rule(&list.state, refused), refused, list.first.number));
     count(("part of", size(kept), 0));
+    for room in list.rooms(part).into_iter().flatten() {
+        count(("sent", IN_A_PART, room as u64));
+    }
     if list.first.place + 1 == MOST {
         count(("refused at", "the 256th call", 0));
     }

@@ -5,7 +5,7 @@ use reference::program::Program;
 use std::collections::BTreeMap;
 
 /// What was seen: a group, what it was in document 01's words, and a number (a
-/// refusal's, or the stores made at a lost power).
+/// refusal's, the room that a send left, or the stores made at a lost power).
 pub type Sight = (&'static str, &'static str, u64);
 
 /// Takes, by document 01's rules.
@@ -25,6 +25,12 @@ const LOGS: [(&str, u64); 3] = [(COPIED_LOGS, 3), (UNMARKED_LOGS, 3), (CHANNEL_L
 /// Equal bodies one after the other in a board log, by their wires (M-101).
 pub const LOWER_FIRST: &str = "equal bodies, from the lower wire first";
 pub const HIGHER_FIRST: &str = "equal bodies, from the higher wire first";
+
+/// Sends, by what is on the wire (M-104).
+pub const NO_NOTE: &str = "no note on the wire";
+pub const BESIDE_NOTE: &str = "a note on the wire";
+/// Those of a part that `console` prints.
+pub const IN_A_PART: &str = "in a part";
 
 /// What 12 was the answer to.
 pub const TWELVES: [&str; 13] = [
@@ -121,7 +127,7 @@ fn name(program: Program, (group, what, number): Sight) -> String {
     match group {
         _ if group.ends_with("plan refused") => format!("{program} {group} {number}"),
         _ if group.ends_with("refused") => format!("{program} {group} {number} ({what})"),
-        "cut" => format!("{program} {group} {number} ({what})"),
+        "cut" | "sent" => format!("{program} {group} {number} ({what})"),
         _ => format!("{program} {group} ({what})"),
     }
 }
@@ -164,8 +170,10 @@ fn calls() -> Vec<Sight> {
         CHANNEL_LOGS,
     ];
     let mut sights = takes.map(|what| ("take", what, 0)).to_vec();
-    let done = ["send", "begin", "copy", "mark", "note", "finish", "give up"];
+    let done = ["begin", "copy", "mark", "note", "finish", "give up"];
     sights.extend(done.map(|what| ("done", what, 0)));
+    sights.extend((0..8).map(|room| ("sent", NO_NOTE, room)));
+    sights.extend((0..7).map(|room| ("sent", BESIDE_NOTE, room)));
     sights.extend(["idle", "copying", "marking"].map(|what| ("restart", what, 0)));
     sights.extend(["board log of 64", "wire log of 8"].map(|what| ("finish with", what, 0)));
     sights.extend(["board log of 64", "wire log of 8"].map(|what| ("restart from", what, 0)));
@@ -196,6 +204,7 @@ fn reductions() -> Vec<Sight> {
     sights.extend(kept.map(|what| ("kept", what, 0)));
     let places = ["the 256th call", "a call before the last"];
     sights.extend(places.map(|what| ("refused at", what, 0)));
+    sights.extend((0..8).map(|room| ("sent", IN_A_PART, room)));
     sights
 }
 

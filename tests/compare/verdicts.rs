@@ -48,7 +48,7 @@ pub fn lines() -> bool {
 /// Parts that may be printed; of one input there are two.
 pub fn right() -> bool {
     let alone = "02 01 00 01\n01 02 # 3 refused 10\n";
-    let all = "02 01 00 01\n09 01 07 00 00 00 # 1\n01 02 # 2\n01 02 # 3 refused 10\n";
+    let all = "02 01 00 01\n09 01 07 00 00 00 # 1 sent 7\n01 02 # 2\n01 02 # 3 refused 10\n";
     console::run(TWICE) == TWICE_OUTPUT
         && passes(TWICE, TWICE_OUTPUT.as_bytes())
         && passes(EMPTY, alone.as_bytes())
@@ -82,13 +82,19 @@ pub fn wrong() -> bool {
         "02 01 00 01\n01 03 # 4\n01 03 # 1 refused 12\n",
         "02 01 00 01\n01 03 # 4 refused 12\n",
         "02 01 00 01\n01 03 # 1 refused 12\n",
-        "02 01 00 01\n01 03 # 1\n09 01 07 00 00 00 # 2\n01 03 # 4 refused 12\n",
+        "02 01 00 01\n01 03 # 1\n09 01 07 00 00 00 # 2 sent 7\n01 03 # 4 refused 12\n",
+        "02 01 00 01\n01 03 # 1 done\n01 03 # 4 refused 12\n",
+        "02 01 00 01\n01 03 # 1 sent 8\n01 03 # 4 refused 12\n",
         "02 01 00 01\n01 03 # 1\n01 02 # 3\n01 03 # 4 refused 12\n",
         "refused 12\n",
         "refused 17\n",
     ];
-    let example = "02 01 00 01\n09 01 01 00 00 00 # 4\n05 02 01 # 9 refused 8\n";
+    let example = "02 01 00 01\n09 01 01 00 00 00 # 4 sent 7\n05 02 01 # 9 refused 8\n";
+    let sends = ["", " done", " sent", " sent 6", " sent 8", " sent 07", " sent 7 0"].map(|said| {
+        format!("02 01 00 01\n09 01 07 00 00 00 # 1{said}\n01 02 # 2\n01 02 # 3 refused 10\n")
+    });
     texts.iter().all(|text| !passes(TWICE, text.as_bytes()))
+        && sends.iter().all(|text| !passes(EMPTY, text.as_bytes()))
         && !passes(TWICE, b"02 01 00 01\n01 03 # 1\n01 03 # 4 refused 12\n\xFF")
         && !passes(ALONE, example.as_bytes())
 }

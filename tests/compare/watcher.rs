@@ -5,7 +5,7 @@ use crate::seen::{self, Seen, Sight};
 use reference::history::Histories;
 use reference::program::{Program, Watch};
 use reference::record::{kind, Record};
-use reference::state::{Phase, State};
+use reference::state::{Entry, Phase, State};
 use reference::steps::{Answer, Outcome, Rule, Step};
 use reference::store::{self, MESSAGE_LOG};
 use std::cmp::Ordering;
@@ -71,6 +71,15 @@ impl<'a> Watcher<'a> {
             _ => (),
         }
         self.count(("done", KINDS[kind(record) as usize - 1], 0));
+    }
+
+    /// A send, by whether a marker was on its channel, and the room left.
+    fn count_sent(&mut self, state: &State, record: Record, room: usize) {
+        if let Record::Step(Step::Send { channel, .. }) = record {
+            let beside = state.channels[channel].contains(&Entry::Marker);
+            let what = if beside { seen::BESIDE_NOTE } else { seen::NO_NOTE };
+            self.count(("sent", what, room as u64));
+        }
     }
 
     fn count_restart(&mut self, state: &State, cells: &[u32]) {
@@ -153,6 +162,7 @@ impl Watch for Watcher<'_> {
         self.lost = answer.outcome == Outcome::PowerLost;
         match answer.outcome {
             Outcome::Done | Outcome::Took(_) | Outcome::Marker => self.count_done(record),
+            Outcome::Sent(room) => self.count_sent(state, record, room),
             Outcome::Line(_) => self.count_restart(state, cells),
             Outcome::Refused(number) => self.count(refusal(self.rule, record, number)),
             Outcome::PowerLost => self.count(("cut", self.rule, answer.stores)),

@@ -37,8 +37,11 @@ impl Question<'_> {
     /// What is printed for a part.
     pub fn text(&self, part: &[usize]) -> String {
         let mut text = hexadecimal(self.plan);
-        for &place in part {
+        for (&place, room) in part.iter().zip(self.list.rooms(part)) {
             let _ = write!(text, "\n{} # {}", hexadecimal(self.calls[place]), place + 1);
+            if let Some(room) = room {
+                let _ = write!(text, " sent {room}");
+            }
         }
         let _ = writeln!(text, " refused {}", self.list.first.number);
         text

@@ -126,6 +126,7 @@ fn run_calls(program: Program, input: &[u8], watch: &mut dyn Watch) -> String {
 fn print(text: &mut String, number: u32, answer: Answer) {
     let outcome = match answer.outcome {
         Outcome::Done => "done".to_string(),
+        Outcome::Sent(room) => format!("sent {room}"),
         Outcome::Took(body) => format!("took {body}"),
         Outcome::Marker => "note".to_string(),
         Outcome::Line(line) => format!("line {line}"),

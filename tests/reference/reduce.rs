@@ -82,6 +82,21 @@ impl RefusedList {
         })
     }
 
+    /// M-104: the room that each send of a part says is left, where the part is
+    /// run; none for another call and for one that is refused.
+    pub fn rooms(&self, part: &[usize]) -> Vec<Option<usize>> {
+        let mut store = vec![u32::MAX; NEW.cells];
+        let mut state =
+            State::initialize(NEW, &self.topology, &mut store).expect("a plan that was run");
+        let mut answer =
+            |place: &usize| call(&mut state, &mut store, self.calls[*place], u64::MAX).outcome;
+        let room = |place| match answer(place) {
+            Outcome::Sent(room) => Some(room),
+            _ => None,
+        };
+        part.iter().map(room).collect()
+    }
+
     /// A smallest part. Blocks of calls are left out, large ones first, and
     /// single calls until a whole pass takes none out.
     pub fn reduce(&self) -> Vec<usize> {

@@ -39,6 +39,8 @@ pub enum Step {
 #[derive(Clone, Copy, Debug, PartialEq, Eq)]
 pub enum Outcome {
     Done,
+    /// M-104: a send left the channel room for so many entries.
+    Sent(usize),
     /// A receive gave this body.
     Took(u32),
     /// A receive gave a marker (document 01: note).
@@ -107,7 +109,7 @@ impl State {
 
     fn perform(&mut self, step: Step, power: &mut Power) -> Result<Outcome, Stop> {
         match step {
-            Step::Send { channel, body } => self.send(channel, body)?,
+            Step::Send { channel, body } => return self.send(channel, body),
             Step::Receive { channel } => return self.receive(channel, power),
             Step::Begin => self.begin(power)?,
             Step::PhysicalCheckpoint { process } => self.physical_checkpoint(process, power)?,
@@ -124,12 +126,12 @@ impl State {
         self.topology.channels.get(channel).copied().ok_or(Stop::Refused(8))
     }
 
-    fn send(&mut self, channel: usize, body: u32) -> Result<(), Stop> {
+    fn send(&mut self, channel: usize, body: u32) -> Result<Outcome, Stop> {
         let (from, _) = self.ends(channel)?;
         require(self.channels[channel].len() < CAPACITY, 9)?;
         let tag = self.tags[from];
         self.channels[channel].push_back(Entry::Message { body, tag });
-        Ok(())
+        Ok(Outcome::Sent(CAPACITY - self.channels[channel].len()))
     }
 
     fn receive(&mut self, channel: usize, power: &mut Power) -> Result<Outcome, Stop> {

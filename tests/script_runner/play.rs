@@ -63,15 +63,22 @@ fn messages(n: u32) -> impl Iterator<Item = Vec<u8>> {
     (0..n).flat_map(message).map(|step| record::write(Record::Step(step)))
 }
 
-/// What stands in the lines of `console` after the calls' bytes; a line alone as it is.
+/// What stands in the lines of `console` after the calls' bytes, but for what sends say; a line alone as it is.
 fn kept(text: &str) -> String {
-    let calls: Vec<&str> =
-        text.lines().filter_map(|line| Some(line.split_once(" # ")?.1)).collect();
+    let call = |line: &'_ str| Some(line.split_once(" # ")?.1.split(" sent").next()?.to_string());
+    let calls: Vec<String> = text.lines().filter_map(call).collect();
     if calls.is_empty() {
         text.trim_end().to_string()
     } else {
         calls.join(" ")
     }
+}
+
+/// What the sends in those lines say.
+fn rooms(text: &str) -> String {
+    let sends: Vec<&str> =
+        text.lines().filter_map(|line| Some(line.split_once(" sent ")?.1)).collect();
+    sends.join(" ")
 }
 
 impl Play<'_> {
@@ -106,7 +113,7 @@ impl Play<'_> {
                 return Ok(Some(shown(format!("cell {cell}")).unwrap_or(rubbish(*cell))));
             }
             Command::Round if drill => return self.round().map(Some),
-            Command::Cell(_) | Command::Round | Command::Part => (),
+            Command::Cell(_) | Command::Round | Command::Part | Command::Rooms => (),
         }
         Ok(None)
     }
@@ -118,6 +125,7 @@ impl Play<'_> {
             Command::Call(bytes) => self.input.extend(bytes),
             Command::Deliver(n) => self.input.extend(messages(*n).flatten()),
             Command::Part => return (self.side.run)(&self.input).map(|text| Some(kept(&text))),
+            Command::Rooms => return (self.side.run)(&self.input).map(|text| Some(rooms(&text))),
             _ => (),
         }
         Ok(None)

@@ -16,6 +16,7 @@
 //!     board BOARD · wire WIRE · cell CELL     as the programs print them; a cell not yet stored to is `rubbish`
 //!     round             the phase, and the last line finished
 //!     part              what `console` keeps of the calls so far: their numbers and the refusal, or its line instead
+//!     rooms             what the sends among these answer (M-104)
 
 use reference::record::{self, Record};
 use reference::steps::Step;
@@ -32,6 +33,7 @@ pub enum Command {
     Cell(usize),
     Round,
     Part,
+    Rooms,
 }
 
 pub struct Line {
@@ -80,9 +82,8 @@ fn read_line(number: usize, text: &str) -> Option<Line> {
     let command = read_command(command)?;
     let expected = match (&command, expected) {
         (Command::Plan(_) | Command::Current(_) | Command::Deliver(_), Some(_)) => return None,
-        (Command::Board(_) | Command::Wire(_) | Command::Round | Command::Part, None) => {
-            return None
-        }
+        (Command::Board(_) | Command::Wire(_) | Command::Round, None)
+        | (Command::Part | Command::Rooms, None) => return None,
         (Command::Cell(cell), Some(value)) if value == "rubbish" => Some(rubbish(*cell)),
         (Command::Cell(_), None) => return None,
         (_, expected) => expected,
@@ -128,6 +129,7 @@ fn read_command(text: &str) -> Option<Command> {
         ("cell", Some(&[cell])) => Command::Cell(cell),
         ("round", Some([])) => Command::Round,
         ("part", Some([])) => Command::Part,
+        ("rooms", Some([])) => Command::Rooms,
         _ => return None,
     })
 }

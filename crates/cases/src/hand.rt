@@ -1,7 +1,7 @@
 // States, plans and steps made by hand, and what the engine answers to them. A step is written as its kind in document
 // 01 (1 to 8) and its process or channel. Answers are numbers: a refusal's; 100 for done, 200 for a marker, 300 and the
-// body for a message, and 1,000 more for each write. A function with `ok` answers whether all was right before and is
-// so here too.
+// body for a message received, 500 and the room left for one sent, and 1,000 more for each write. A function with `ok`
+// answers whether all was right before and is so here too.
 use libc::STDOUT_FILENO;
 use model::Outcome;
 use model::Phase;
@@ -44,6 +44,7 @@ pub fn untouched(store: &[u32]) -> bool {
 fn number(outcome: Outcome, made: u32) -> u64 {
     let code = match outcome {
         Outcome::Done => 100,
+        Outcome::Sent(room) => 500 + room as u64,
         Outcome::Received(body) => 300 + body as u64,
         Outcome::ReceivedMarker => 200,
         Outcome::Refused(r) => rules::refusal::number(r) as u64,

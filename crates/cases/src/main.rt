@@ -53,16 +53,33 @@ fn markers() {
     hand::tell(b"Outside marking a note is merely removed.", ok);
 }
 
+// Channel 1 has the entries, and channel 0 none or a marker.
+fn room() {
+    let idle = Phase::Idle;
+    let mut ok = hand::tried(true, hand::made(0, idle, 0, 0, 0), 1, 1, 507);
+    ok = hand::tried(ok, hand::made(0, idle, 5, 0, 0), 1, 1, 502);
+    ok = hand::tried(ok, hand::made(0, idle, 5, 0, 0), 1, 0, 507);
+    ok = hand::tried(ok, hand::made(0, idle, 7, 0, 0), 1, 1, 500);
+    ok = hand::tried(ok, hand::made(0, idle, 8, 0, 0), 1, 1, 9);
+    hand::tell(
+        b"A send answers how many entries its wire can still hold.",
+        ok,
+    );
+    ok = hand::tried(true, hand::marked(Phase::Logical, false), 1, 0, 506);
+    ok = hand::tried(ok, hand::marked(Phase::Logical, false), 1, 1, 507);
+    hand::tell(b"A note on the wire is an entry: sent 6 beside it.", ok);
+}
+
 fn unsound() {
     let idle = Phase::Idle;
     let mut ok = hand::tried(true, hand::made(0, idle, 9, 0, 0), 2, 1, 15);
     ok = hand::tried(ok, hand::made(0, idle, 8, 0, 0), 2, 1, 300);
     hand::tell(b"9 entries on a wire: 15. 8 pass, 9 past the plan.", ok);
     ok = hand::tried(true, hand::made(0, idle, 0, 65, 0), 1, 0, 15);
-    ok = hand::tried(ok, hand::made(0, idle, 0, 64, 0), 1, 0, 100);
+    ok = hand::tried(ok, hand::made(0, idle, 0, 64, 0), 1, 0, 507);
     hand::tell(b"65 in a board log: 15. 64 pass, 65 past the plan.", ok);
     ok = hand::tried(true, hand::made(0, idle, 0, 0, 9), 1, 0, 15);
-    ok = hand::tried(ok, hand::made(0, idle, 0, 0, 8), 1, 0, 100);
+    ok = hand::tried(ok, hand::made(0, idle, 0, 0, 8), 1, 0, 507);
     hand::tell(b"9 in a wire log: 15. 8 pass, 9 past the plan.", ok);
     ok = hand::tried(true, hand::made(0, Phase::Physical(2), 0, 0, 0), 4, 2, 15);
     ok = hand::tried(ok, hand::made(0, Phase::Physical(1), 0, 0, 0), 4, 1, 1100);
@@ -75,7 +92,7 @@ fn unsound() {
         15,
     );
     ok = hand::tried(ok, hand::made(LAST, Phase::Logical, 0, 0, 0), 5, 0, 15);
-    ok = hand::tried(ok, hand::made(LAST, Phase::Idle, 0, 0, 0), 1, 0, 100);
+    ok = hand::tried(ok, hand::made(LAST, Phase::Idle, 0, 0, 0), 1, 0, 507);
     ok = hand::tried(
         ok,
         hand::made(4294967294, Phase::Logical, 0, 0, 0),
@@ -120,6 +137,7 @@ fn main() {
     bad_plans();
     short_store();
     markers();
+    room();
     unsound();
     bad_counts();
     logged_wires();

@@ -13,6 +13,7 @@ use lib.Seq.{take-nil}
 use Rattle.model.specs.declared.State.{State}
 use Rattle.model.specs.declared.Step.{Step}
 use Rattle.model.specs.declared.Answer.{Answer}
+use Rattle.model.specs.declared.Outcome.{Outcome}
 use Rattle.model.specs.declared.Outcome.the-variants.{Done, PowerLost}
 use Rattle.model.specs.declared.Refusal.{Refusal}
 use Rattle.model.specs.declared.Refusal.the-variants.{Unsound, ShortStore}
@@ -22,7 +23,7 @@ use Rattle.model.specs.State.{GlobalState, view}
 use Rattle.model.specs.Sound.{sound}
 use Rattle.model.specs.Write.{Result, Answered, underBudget, writeAll}
 use Rattle.model.specs.Step.{step, ownChecks, stepChecks, resultOf, effect, answer, quietly}
-use Rattle.model.specs.Outcome.{refusalNumber, accepted}
+use Rattle.model.specs.Outcome.{refusalNumber, saidBy, accepted}
 use Rattle.model.specs.Outcome as says
 use Rattle.model.proofs.laws.Tests.{true-is-not-false}
 use Rattle.engine.specs.Answers.{Meets, Answers, refusedBy, ownResult, Performs, Quiet}
@@ -59,19 +60,25 @@ module _ (s : State) (x : Step) where
         writes = ap (λ (y : Result). y .writes) own;
       })
 
-  pub quiet-done : firstRefusal (ownChecks (view s) x) ≡ none → (seen : GlobalState)
-      → effect (view s) x ≡ quietly says.done seen → (next : State) → view next ≡ seen
-      → Quiet s x (record { outcome = Done; made = 0; state = next })
-  unfolding quietly accepted
-  quiet-done e seen f next v =
-      let own : ownResult (view s) x ≡ quietly says.done seen = own-done e ∙ f in
+  pub quiet-accepted : firstRefusal (ownChecks (view s) x) ≡ none → (o : Outcome) → accepted (saidBy o) ≡ true
+      → (seen : GlobalState) → effect (view s) x ≡ quietly (saidBy o) seen → (next : State) → view next ≡ seen
+      → Quiet s x (record { outcome = o; made = 0; state = next })
+  unfolding quietly
+  quiet-accepted e o taken seen f next v =
+      let own : ownResult (view s) x ≡ quietly (saidBy o) seen = own-done e ∙ f in
       record {
         outcome = ap (λ (y : Result). y .outcome) (sym own);
         made = refl;
         state = v ∙ ap (λ (y : Result). y .state) (sym own);
-        kept = λ never. true-is-not-false refl never;
+        kept = λ never. true-is-not-false taken never;
         writes = ap (λ (y : Result). y .writes) own;
       }
+
+  pub quiet-done : firstRefusal (ownChecks (view s) x) ≡ none → (seen : GlobalState)
+      → effect (view s) x ≡ quietly says.done seen → (next : State) → view next ≡ seen
+      → Quiet s x (record { outcome = Done; made = 0; state = next })
+  unfolding accepted
+  quiet-done e seen f next v = quiet-accepted e Done refl seen f next v
 
   -- answers of a step that writes: refused, with the power lost, and done
   module _ (before : List ℕ) (budget : ℕ) where

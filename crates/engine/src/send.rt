@@ -1,4 +1,4 @@
-// Step 1, send: a message after the others on its channel, with its sender's tag.
+// Step 1, send: a message after the others on its channel, with its sender's tag. It answers how much room is left.
 use crate::entries;
 use crate::refusal;
 use model::Answer;
@@ -29,9 +29,10 @@ pub fn send(mut s: State, channel: u8, body: u32) -> Answer
     }
     let from = t.from[at] as usize;
     let tag = s.tags[from];
-    s.channels[at] = entries::push(c, Entry::Message { body, tag });
+    let after = entries::push(c, Entry::Message { body, tag });
+    s.channels[at] = after;
     Answer {
-        outcome: Outcome::Done,
+        outcome: Outcome::Sent(channel::room(after)),
         made: 0,
         state: s,
     }

@@ -14,4 +14,5 @@ pub mod Looked
 pub mod Reached
 pub mod Trace
 pub mod OrderShows
+pub mod SlowDown
 pub mod Numbers

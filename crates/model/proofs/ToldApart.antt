@@ -11,7 +11,7 @@ use Rattle.model.specs.declared.Refusal.the-variants.{ProcessCount, Chan
 use Rattle.model.specs.declared.Refusal.the-variants.{DoubledChannel, ShortStore, Malformed, NoSuch, ChannelFull}
 use Rattle.model.specs.declared.Refusal.the-variants.{ChannelEmpty, LogFull, NotNow, LastLine, MarkerOnClosed}
 use Rattle.model.specs.declared.Refusal.the-variants.{Unsound, BadCount, NothingRefused, LongList}
-use Rattle.model.specs.Outcome.{Said, done, took, note, line, refused, cut, refusalNumber, saidBy}
+use Rattle.model.specs.Outcome.{Said, done, sent, took, note, line, refused, cut, refusalNumber, saidBy}
 use Rattle.model.specs.Order.{ToldApart}
 
 -- the refusals in the order of their numbers, from 1 on
@@ -46,6 +46,7 @@ refusal-back LongList = refl
 
 abbrev outcomeFor : Said → Outcome
 outcomeFor done = outcome.Done
+outcomeFor (sent n) = outcome.Sent n
 outcomeFor (took b) = outcome.Received b
 outcomeFor note = outcome.ReceivedMarker
 outcomeFor (line k) = outcome.Done
@@ -54,6 +55,7 @@ outcomeFor cut = outcome.PowerLost
 
 outcome-back : (o : Outcome) → outcomeFor (saidBy o) ≡ o
 outcome-back outcome.Done = refl
+outcome-back (outcome.Sent n) = refl
 outcome-back (outcome.Received b) = refl
 outcome-back outcome.ReceivedMarker = refl
 outcome-back (outcome.Refused r) = ap outcome.Refused (refusal-back r)

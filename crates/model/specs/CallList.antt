@@ -1,6 +1,6 @@
 -- Document 02, M-100: "a list of at most 256 steps, restarts included, run from setup with full current, find the first
 -- refusal". The list, the replies to its calls, and its first failure: which call is refused first, and with which
--- number.
+-- number. M-104: what its sends say of room.
 use Prim.Native.Nat.{ℕ, _+_}
 use mathlib.Core.List.{List, [], _∷_, map}
 use mathlib.Core.Option.{Option, none, some}
@@ -12,7 +12,7 @@ use Rattle.model.specs.declared.Step.the-variants.{Send}
 use Rattle.model.specs.declared.Listed.{Listed}
 use Rattle.model.specs.declared.CallList.{CallList}
 use Rattle.model.specs.Notation.{tabulate}
-use Rattle.model.specs.Outcome.{refusedWith}
+use Rattle.model.specs.Outcome.{refusedWith, roomSaid}
 use Rattle.model.specs.Layout.{storeCells}
 use Rattle.model.specs.Program.{fullBudget}
 use Rattle.model.specs.Run.{Reply, trace, firstWorld}
@@ -54,3 +54,16 @@ firstFrom place (r ∷ rs) = failureOr place (refusedWith (r .outcome)) (firstFr
 -- "find the first refusal"
 unfoldable pub firstFailure : Topology → List Record → Option Failure
 firstFailure T calls = firstFrom 0 (replies T calls)
+
+-- Document 02, M-104, "every part that hands a send on passes it up": how much room each call before the first refused
+-- one says is left, with 0 for one that is no send.
+unfoldable pub roomsUnless : Option ℕ → ℕ → List ℕ → List ℕ
+roomsUnless (some n) room later = []
+roomsUnless none room later = room ∷ later
+
+unfoldable pub roomsOf : List Reply → List ℕ
+roomsOf [] = []
+roomsOf (r ∷ rs) = roomsUnless (refusedWith (r .outcome)) (roomSaid (r .outcome)) (roomsOf rs)
+
+unfoldable pub rooms : Topology → List Record → List ℕ
+rooms T calls = roomsOf (replies T calls)

@@ -24,6 +24,9 @@ use Rattle.model.specs.ProgramRuns.{callOf}
 abbrev pub done : ℕ
 done = 0x64
 
+abbrev pub sent : ℕ
+sent = 0x73
+
 abbrev pub took : ℕ
 took = 0x74
 
@@ -51,6 +54,7 @@ message = 0x6D
 
 unfoldable pub saidWord : says.Said → ℕ
 saidWord says.done = done
+saidWord (says.sent room) = sent
 saidWord (says.took body) = took
 saidWord says.note = note
 saidWord (says.line k) = line

@@ -1,5 +1,6 @@
 -- Document 01, "Cases": those with a star, as one table, with the words that document 02, M-101, gives for them and its
--- own case. Each row has what the definitions give and what the papers say, as lines of numbers.
+-- own case, and with what M-104 makes of a send's lines. Each row has what the definitions give and what the papers
+-- say, as lines of numbers.
 use Prim.Native.Nat.{ℕ, _+_}
 use mathlib.Core.List.{List, [], _∷_, _++_}
 use Rattle.model.specs.declared.Step.the-variants.{Begin, Commit, Abort}
@@ -7,7 +8,7 @@ use Rattle.model.specs.Notation.{concatBelow}
 use Rattle.model.specs.Word.{receipt, enter, replay}
 use Rattle.model.specs.Record.{readRecord}
 use Rattle.model.specs.Program as program
-use Rattle.model.specs.CaseLines.{done, took, note, line, refused, board, wire, powerLost, message, printed}
+use Rattle.model.specs.CaseLines.{done, sent, took, note, line, refused, board, wire, powerLost, message, printed}
 use Rattle.model.specs.CaseLines.{afterSteps, answerIn, answerLine, thenRecover, thenTags, readingNumbers}
 
 -- "Input (hexadecimal)"
@@ -68,16 +69,16 @@ starred =
           ∷ (line ∷ 1 ∷ [])
           ∷ [];
     }
-    -- "The input above ends with 5 on wire 1."
+    -- "The input above ends with 5 on wire 1."; M-104: "lines 4 and 6 become `4 sent 7 0` and `6 sent 7 0`"
     ∷ record {
       got = printed input;
       expected =
           (1 ∷ done ∷ 4 ∷ [])
           ∷ (2 ∷ done ∷ 1 ∷ [])
           ∷ (3 ∷ done ∷ 1 ∷ [])
-          ∷ (4 ∷ done ∷ 0 ∷ [])
+          ∷ (4 ∷ sent ∷ 7 ∷ 0 ∷ [])
           ∷ (5 ∷ done ∷ 0 ∷ [])
-          ∷ (6 ∷ done ∷ 0 ∷ [])
+          ∷ (6 ∷ sent ∷ 7 ∷ 0 ∷ [])
           ∷ (7 ∷ took ∷ 7 ∷ 0 ∷ [])
           ∷ (8 ∷ took ∷ 5 ∷ 2 ∷ [])
           ∷ (9 ∷ done ∷ 0 ∷ [])
@@ -96,14 +97,14 @@ starred =
     ∷ record {
       got = printed (0x02 ∷ 0x01 ∷ 0x00 ∷ 0x01 ∷ concatBelow 9 (λ i. 0x09 ∷ 0x01 ∷ (i + 1) ∷ 0x00 ∷ 0x00 ∷ 0x00 ∷ []));
       expected =
-          (1 ∷ done ∷ 0 ∷ [])
-          ∷ (2 ∷ done ∷ 0 ∷ [])
-          ∷ (3 ∷ done ∷ 0 ∷ [])
-          ∷ (4 ∷ done ∷ 0 ∷ [])
-          ∷ (5 ∷ done ∷ 0 ∷ [])
-          ∷ (6 ∷ done ∷ 0 ∷ [])
-          ∷ (7 ∷ done ∷ 0 ∷ [])
-          ∷ (8 ∷ done ∷ 0 ∷ [])
+          (1 ∷ sent ∷ 7 ∷ 0 ∷ [])
+          ∷ (2 ∷ sent ∷ 6 ∷ 0 ∷ [])
+          ∷ (3 ∷ sent ∷ 5 ∷ 0 ∷ [])
+          ∷ (4 ∷ sent ∷ 4 ∷ 0 ∷ [])
+          ∷ (5 ∷ sent ∷ 3 ∷ 0 ∷ [])
+          ∷ (6 ∷ sent ∷ 2 ∷ 0 ∷ [])
+          ∷ (7 ∷ sent ∷ 1 ∷ 0 ∷ [])
+          ∷ (8 ∷ sent ∷ 0 ∷ 0 ∷ [])
           ∷ (9 ∷ refused ∷ 9 ∷ 0 ∷ [])
           ∷ (board ∷ 0 ∷ 0 ∷ [])
           ∷ (board ∷ 1 ∷ 0 ∷ [])
@@ -157,8 +158,8 @@ starred =
     ∷ record {
       got = printed (neighbours ++ (0x01 ∷ 0x02 ∷ 0x05 ∷ 0x02 ∷ 0x01 ∷ []));
       expected =
-          (1 ∷ done ∷ 0 ∷ [])
-          ∷ (2 ∷ done ∷ 0 ∷ [])
+          (1 ∷ sent ∷ 7 ∷ 0 ∷ [])
+          ∷ (2 ∷ sent ∷ 7 ∷ 0 ∷ [])
           ∷ (3 ∷ took ∷ 5 ∷ 0 ∷ [])
           ∷ (4 ∷ took ∷ 5 ∷ 0 ∷ [])
           ∷ (board ∷ 0 ∷ 4841 ∷ [])
@@ -171,8 +172,8 @@ starred =
     ∷ record {
       got = printed (neighbours ++ (0x05 ∷ 0x02 ∷ 0x01 ∷ 0x01 ∷ 0x02 ∷ []));
       expected =
-          (1 ∷ done ∷ 0 ∷ [])
-          ∷ (2 ∷ done ∷ 0 ∷ [])
+          (1 ∷ sent ∷ 7 ∷ 0 ∷ [])
+          ∷ (2 ∷ sent ∷ 7 ∷ 0 ∷ [])
           ∷ (3 ∷ took ∷ 5 ∷ 0 ∷ [])
           ∷ (4 ∷ took ∷ 5 ∷ 0 ∷ [])
           ∷ (board ∷ 0 ∷ 34601 ∷ [])

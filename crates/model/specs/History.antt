@@ -14,7 +14,8 @@ use Rattle.model.specs.declared.Receipt.{Receipt}
 use Rattle.model.specs.Notation.{upd}
 use Rattle.model.specs.Word.{receipt}
 use Rattle.model.specs.Topology.{sender, receiver}
-use Rattle.model.specs.Outcome.{Said, done, took, note, line, refused, cut, accepted}
+use Rattle.model.specs.Outcome.{Said, accepted}
+use Rattle.model.specs.Outcome as says
 
 -- "entries are sends and takes with wire and body"
 pub data Direction : Type 0 where
@@ -103,12 +104,13 @@ onMessage T c b h =
 
 -- "Take giving a body", "Take giving a note: a receiver without a mark of this round is marked. No entry."
 unfoldable pub onReceive : Topology → ℕ → Said → History → History
-onReceive T c done h = h
-onReceive T c (took b) h = onMessage T c b h
-onReceive T c note h = markUnmarked (h .mark (receiver T c)) (receiver T c) h
-onReceive T c (line k) h = h
-onReceive T c (refused n) h = h
-onReceive T c cut h = h
+onReceive T c says.done h = h
+onReceive T c (says.sent room) h = h
+onReceive T c (says.took b) h = onMessage T c b h
+onReceive T c says.note h = markUnmarked (h .mark (receiver T c)) (receiver T c) h
+onReceive T c (says.line k) h = h
+onReceive T c (says.refused n) h = h
+onReceive T c says.cut h = h
 
 -- the place of p's mark in a line, where the round has one
 unfoldable pub markOr : Option ℕ → ℕ → ℕ

@@ -31,3 +31,4 @@ pub mod Cases
 pub mod CallList
 pub mod Reduction
 pub mod SpokeFirst
+pub mod NextSend

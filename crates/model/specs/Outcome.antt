@@ -16,9 +16,11 @@ use Rattle.model.specs.declared.Refusal.the-variants.{DoubledChannel, Sh
 use Rattle.model.specs.declared.Refusal.the-variants.{ChannelEmpty, LogFull, NotNow, LastLine, MarkerOnClosed}
 use Rattle.model.specs.declared.Refusal.the-variants.{Unsound, BadCount, NothingRefused, LongList}
 
--- "Outcomes: `done`; `took` and body; `note`; `line` and its number for a restart; `refused` and number", and "cut"
+-- "Outcomes: `done`; `took` and body; `note`; `line` and its number for a restart; `refused` and number", and "cut";
+-- document 02, M-104: "`sent`, that count"
 pub data Said : Type 0 where
   done : Said
+  sent : ℕ → Said
   took : ℕ → Said
   note : Said
   line : ℕ → Said
@@ -28,6 +30,7 @@ pub data Said : Type 0 where
 -- the values that are said
 unfoldable pub saidValues : Said → List ℕ
 saidValues done = []
+saidValues (sent room) = room ∷ []
 saidValues (took body) = body ∷ []
 saidValues note = []
 saidValues (line k) = k ∷ []
@@ -37,6 +40,7 @@ saidValues cut = []
 -- "accepted (neither refused nor cut)"
 unfoldable pub accepted : Said → Bool
 accepted done = true
+accepted (sent room) = true
 accepted (took body) = true
 accepted note = true
 accepted (line k) = true
@@ -68,6 +72,7 @@ refusalNumber LongList = 18
 -- what a step's outcome says
 abbrev pub saidBy : Outcome → Said
 saidBy outcome.Done = done
+saidBy (outcome.Sent room) = sent room
 saidBy (outcome.Received body) = took body
 saidBy outcome.ReceivedMarker = note
 saidBy (outcome.Refused r) = refused (refusalNumber r)
@@ -76,11 +81,22 @@ saidBy outcome.PowerLost = cut
 -- the number that is said, where it is a refusal's
 unfoldable pub refusedWith : Said → Option ℕ
 refusedWith done = none
+refusedWith (sent room) = none
 refusedWith (took body) = none
 refusedWith note = none
 refusedWith (line k) = none
 refusedWith (refused n) = some n
 refusedWith cut = none
+
+-- how much room it says is left, where it is a send's answer; 0 where not
+abbrev pub roomSaid : Said → ℕ
+roomSaid done = 0
+roomSaid (sent room) = room
+roomSaid (took body) = 0
+roomSaid note = 0
+roomSaid (line k) = 0
+roomSaid (refused n) = 0
+roomSaid cut = 0
 
 -- the number that a verdict, an initialize or a recover refuses with, if it does
 unfoldable pub refusalOf : Verdict → Option ℕ

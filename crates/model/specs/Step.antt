@@ -12,10 +12,10 @@ use Rattle.model.specs.declared.Step.{Step}
 use Rattle.model.specs.declared.Step.the-variants.{Send, Receive, Begin, PhysicalCheckpoint}
 use Rattle.model.specs.declared.Step.the-variants.{LogicalCheckpoint, SendMarker, Commit, Abort}
 use Rattle.model.specs.Notation.{allBelow}
-use Rattle.model.specs.Outcome.{Said, done, took, note, refused}
+use Rattle.model.specs.Outcome.{Said, done, sent, took, note, refused}
 use Rattle.model.specs.Check.{Check, _⇒_, firstRefusal}
 use Rattle.model.specs.Topology.{sender, receiver, hasProcess, hasChannel}
-use Rattle.model.specs.Channel.{noRoomForMessage, noRoomForMarker, noEntry, receiptOf}
+use Rattle.model.specs.Channel.{roomLeft, noRoomForMessage, noRoomForMarker, noEntry, receiptOf}
 use Rattle.model.specs.Phase.{isIdle, isLogical, isNext}
 use Rattle.model.specs.Layout.{storeCells}
 use Rattle.model.specs.State.{GlobalState, noCounts, noProgress, raisedAll}
@@ -149,9 +149,11 @@ afterPhysical s p =
 
 -- What an accepted step does.
 unfoldable pub effect : GlobalState → Step → Result
--- "Send wire, body: the entry gets the sender's tag."
+-- "Send wire, body: the entry gets the sender's tag."; document 02, M-104: "A send answers how many entries the wire
+-- can still hold afterwards"
 effect s (Send c b) =
-    quietly done (setEntries c (s .channel c ++ (Message b (s .tag (sender (s .topology) c)) ∷ [])) s)
+    let after : List Entry = s .channel c ++ (Message b (s .tag (sender (s .topology) c)) ∷ []) in
+    quietly (sent (roomLeft after)) (setEntries c after s)
 effect s (Receive c) = receive s c (s .channel c)
 -- "Copying starts at board 0, for line k + 1"; "setup, restart and begin make [every log's count] 0"
 effect s Begin =

@@ -135,10 +135,11 @@ pub enum Verdict {
     Refuse(Refusal),
 }
 
-// What a step answers: done; a message received (took), with its body; a marker received (note); refused; or the
-// power was lost (cut).
+// What a step answers: done; a message sent, with how many entries its channel can still hold; a message received
+// (took), with its body; a marker received (note); refused; or the power was lost (cut).
 pub enum Outcome {
     Done,
+    Sent(u8),
     Received(u32),
     ReceivedMarker,
     Refused(Refusal),

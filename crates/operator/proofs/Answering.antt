@@ -14,24 +14,25 @@ use Rattle.model.specs.declared.Record.the-variants.{Recover}
 use Rattle.model.specs.declared.CallList.{CallList}
 use Rattle.model.specs.Topology.{topologyRefusal}
 use Rattle.model.specs.Program.{planOf, planLength, shapeRefusal, planRefusal}
-use Rattle.model.specs.Record.{writeRecord}
-use Rattle.model.specs.CallList.{callAt, listed, listLimit, Failure}
-use Rattle.model.specs.Reduction.{Sought, refuses, finds, sought, Smallest}
+use Rattle.model.specs.CallList.{callAt, listed, listLimit, Failure, rooms}
+use Rattle.model.specs.Reduction.{Sought, refuses, finds, callsAt, sought, Smallest}
 use Rattle.model.proofs.laws.Tests.{Tested, test, holds, fails}
 use Rattle.model.proofs.laws.Lists.{tabulate-length, tabulate-at, concat-cong, or-else-none}
 use Rattle.plan.proofs.Plans.{whole}
 use Rattle.report.specs.Appends.{Appends}
-use Rattle.report.specs.Hex.{planLineText, keptText, lastText, refusedText}
+use Rattle.report.specs.Hex.{planLineText, refusedText}
 use Rattle.report.specs.Text.{planRefusedText}
 use Rattle.report.specs.TextBytes.{planLineBytes, planRefusedBytes, refusedBytes}
 use Rattle.report.proofs.Appending.{at-most, _then_}
+use Rattle.reduction.specs.Parts.{padded}
+use Rattle.reduction.proofs.Parts.{padded-at}
 use Rattle.reduction.proofs.Shrinking.{below}
 use Rattle.reduction.proofs.Passing.{some-call}
 use Rattle.reduction.proofs.Wholes.{place-within}
 use Rattle.reduction.proofs.Reducing.{sought-long, found-first, found-few}
 use Rattle.operator.specs.declared.list.ListRead.{ListRead}
 use Rattle.operator.specs.Console.{soughtAnswer, listAnswer, planAnswer, reduction}
-use Rattle.operator.specs.ConsoleText.{keptLine, partText, partBytes, planBytes, answerText}
+use Rattle.operator.specs.ConsoleText.{keptLine, lastLine, partText, partBytes, planBytes, answerText}
 use Rattle.operator.specs.Lists.{callsIn, brokenOff, ReadsList}
 use Rattle.operator.specs.Printing.{Answers}
 use Rattle.operator.proofs.Lines.{plan-line, line}
@@ -62,17 +63,20 @@ module _ (list : CallList) (xs : List ℕ) (h : (i : ℕ) → i < length xs → 
   unfolding listed
   same-call i l = sym (tabulate-at (list .count) (callAt list) (getD xs i 0) Recover (h i l))
 
-  same-line : (i : ℕ) → i < length xs → keptLine (callAt list) (getD xs i 0) ≡ keptLine call (getD xs i 0)
-  same-line i l = ap (λ (x : Record). keptText (writeRecord x) (getD xs i 0 + 1)) (same-call i l)
+  -- the line of the i-th call, where it says so of room
+  abbrev line-of : (ℕ → Record) → ℕ → ℕ → List ℕ
+  line-of c i room = keptLine (c (getD xs i 0)) (getD xs i 0) room
 
-  part-lines : (n : ℕ) → 0 < length xs → partText (callAt list) xs n ≡ partText call xs n
-  part-lines n some-call =
+  part-lines : (said : List ℕ) (n : ℕ) → 0 < length xs
+      → partText (callAt list) xs (padded said) n ≡ partText call xs said n
+  part-lines said n some-call =
       let end : ℕ = length xs - 1 in
       let last : ℕ = getD xs end 0 in
       ap₂ (λ (a b : List ℕ). a ++ b)
-      (concat-cong end (λ i. keptLine (callAt list) (getD xs i 0)) (λ i. keptLine call (getD xs i 0))
-      (λ i l. same-line i (omega arith)))
-      (ap (λ (x : Record). lastText (writeRecord x) (last + 1) n) (same-call end (omega arith)))
+      (concat-cong end (λ i. line-of (callAt list) i (getD (padded said) i 0)) (λ i. line-of call i (getD said i 0))
+      (λ i l. ap₂ (λ (x : Record) (room : ℕ). keptLine x (getD xs i 0) room) (same-call i (omega arith))
+      (padded-at said i)))
+      (ap (λ (x : Record). lastLine x last n) (same-call end (omega arith)))
 
 -- a smallest part is a part of the list, and has a call
 module _ (T : Topology) (list : CallList) {f : Failure} (e : sought T (listed list) ≡ finds f) {xs : List ℕ}
@@ -86,8 +90,9 @@ module _ (T : Topology) (list : CallList) {f : Failure} (e : sought T (listed li
       rw (count-is list) at (place-within T (listed list) f (found-first T (listed list) e)) in
       below (list .count) xs (s .fails .rising) (rw (s .fails .last) place) i l
 
-  pub found-lines : (n : ℕ) → partText (callAt list) xs n ≡ partText (λ i. getD (listed list) i Recover) xs n
-  found-lines n = part-lines list xs within-list n has-call
+  pub found-lines : (said : List ℕ) (n : ℕ)
+      → partText (callAt list) xs (padded said) n ≡ partText (λ i. getD (listed list) i Recover) xs said n
+  found-lines said n = part-lines list xs within-list said n has-call
 
 -- how many bytes a plan that passes its checks has
 plan-few : (bytes : List ℕ) → planRefusal bytes ≡ none → length (take (planLength bytes) bytes) ≤ planBytes
@@ -130,21 +135,24 @@ module _ (bytes : List ℕ) {before after : List ℕ} {r : ℕ} where
       unfolding soughtAnswer
       answers-refused e t = rw (answered bytes passes T plan x read whole-list _ e) (line t)
 
-      pub answers-part : {f : Failure} {part own middle : List ℕ} {at : ℕ}
+      pub answers-part : {f : Failure} {part said own middle : List ℕ} {at : ℕ}
           → sought T (listed (x .list)) ≡ finds f → Smallest T (listed (x .list)) f part
+          → said ≡ padded (rooms T (callsAt (listed (x .list)) part))
           → own ≡ take (planLength bytes) bytes
           → Appends (planLineBytes (length own)) before 0 (planLineText own) middle at
-          → Appends partBytes middle at (partText (callAt (x .list)) part (f .number)) after r
+          → Appends partBytes middle at (partText (callAt (x .list)) part said (f .number)) after r
           → Answers (reduction bytes) before after r
       unfolding soughtAnswer answerText
-      answers-part {f} {part} {own} {middle} {at} e s o p q =
+      answers-part {f} {part} {said} {own} {middle} {at} e s m o p q =
           let few = found-few T (listed (x .list)) e in
           let same : listed (x .list) ≡ callsIn (records bytes) =
           read .calls (rw (← read .count, ← count-is (x .list)) few) in
-          let lines : List Record → List ℕ = λ cs. partText (λ i. getD cs i Recover) part (f .number) in
+          let told : List Record → List ℕ = λ cs. rooms T (callsAt cs part) in
+          let lines : List Record → List ℕ = λ cs. partText (λ i. getD cs i Recover) part (told cs) (f .number) in
           let text : Appends partBytes middle at (lines (callsIn (records bytes))) after r =
           subst (λ (t : List ℕ). Appends partBytes middle at t after r)
-          (found-lines T (x .list) e s (f .number) ∙ ap lines same) q in
+          (ap (λ (a : List ℕ). partText (callAt (x .list)) part a (f .number)) m
+          ∙ (found-lines T (x .list) e s (told (listed (x .list))) (f .number) ∙ ap lines same)) q in
           let few-own : length own ≤ planBytes = rw o (plan-few bytes passes) in
           rw (answered bytes passes T plan x read whole-list (finds f) e)
           (record {

@@ -19,8 +19,8 @@ use Rattle.reduction.specs.declared.part.Part.{Part}
 use Rattle.reduction.specs.Parts.{kept, Held}
 use Rattle.reduction.proofs.Parts.{kept-length, kept-at}
 use Rattle.report.specs.Appends.{Appends}
-use Rattle.report.specs.Hex.{keptText, lastText}
-use Rattle.report.specs.TextBytes.{keptBytes, lastBytes}
+use Rattle.report.specs.Hex.{callText}
+use Rattle.report.specs.TextBytes.{callBytes, sentBytes, lastBytes}
 use Rattle.report.proofs.Appending.{at-most, _then_}
 use Rattle.operator.specs.ConsoleText.{keptLine, lastLine, partText, partBytes}
 
@@ -57,7 +57,7 @@ saved kind p =
     fields-length kind p 0 0
     (omega (arith, field-length p (p ∷ []), absent-length (0 ∷ []), absent-length (bodyBytes 0)))
 
-pub record-length : (r : Record) → length (writeRecord r) ≤ longest
+record-length : (r : Record) → length (writeRecord r) ≤ longest
 unfolding writeRecord fieldsOf
 record-length (Call (Send c b)) = sent 1 c b
 record-length (Call (Receive c)) = sent 2 c 0
@@ -83,44 +83,46 @@ module _ (r : Record) {w : Written} (e : w ≡ written r) where
   pub written-within : w .count ≤ length (w .bytes)
   written-within = omega (arith, written-count, length-take (w .count) (w .bytes))
 
-  module _ (number : ℕ) {b a : List ℕ} {at n : ℕ} where
-    pub kept-printed : Appends (keptBytes (length (bytesOf w))) b at (keptText (bytesOf w) number) a n
-        → Appends (keptBytes longest) b at (keptText (writeRecord r) number) a n
-    kept-printed p =
-        at-most
-        (subst (λ (bs : List ℕ). Appends (keptBytes (length bs)) b at (keptText bs number) a n) written-bytes p)
-        (omega (arith, record-length r))
-
-    pub last-printed : (x : ℕ) → Appends (lastBytes (length (bytesOf w))) b at (lastText (bytesOf w) number x) a n
-        → Appends (lastBytes longest) b at (lastText (writeRecord r) number x) a n
-    last-printed x p =
-        at-most
-        (subst (λ (bs : List ℕ). Appends (lastBytes (length bs)) b at (lastText bs number x) a n) written-bytes p)
-        (omega (arith, record-length r))
+  -- so a line that opens with them, whatever ends it in so many bytes
+  pub line-printed : (number most : ℕ) (end : List ℕ) {b a : List ℕ} {at n : ℕ}
+      → Appends (callBytes (length (bytesOf w)) + most) b at (callText (bytesOf w) number ++ end) a n
+      → Appends (callBytes longest + most) b at (callText (writeRecord r) number ++ end) a n
+  line-printed number most end {b} {a} {at} {n} p =
+      at-most
+      (subst (λ (bs : List ℕ). Appends (callBytes (length bs) + most) b at (callText bs number ++ end) a n)
+      written-bytes p)
+      (omega (arith, record-length r))
 
 -- the lines of a part, by its array's places
-module _ (call : ℕ → Record) {part : Part} (h : Held part) (some-call : 0 < part .count) (n : ℕ) where
+module _ (call : ℕ → Record) {part : Part} (rooms : List ℕ) (h : Held part) (some-call : 0 < part .count)
+    (n : ℕ) where
+  abbrev lineAt : ℕ → ℕ → List ℕ
+  lineAt i place = keptLine (call place) place (getD rooms i 0)
+
+  abbrev lastAt : ℕ → List ℕ
+  lastAt place = lastLine (call place) place n
+
   abbrev line : ℕ → List ℕ
-  line i = keptLine call (getD (part .places) i 0)
+  line i = lineAt i (getD (part .places) i 0)
 
   place-at : (i : ℕ) → i < part .count → getD (part .places) i 0 ≡ getD (kept part) i 0
   place-at i l = sym (kept-at h i l)
 
-  printed-text : concatBelow (part .count - 1) line ++ lastLine call (getD (part .places) (part .count - 1) 0) n
-      ≡ partText call (kept part) n
+  printed-text : concatBelow (part .count - 1) line ++ lastAt (getD (part .places) (part .count - 1) 0)
+      ≡ partText call (kept part) rooms n
   printed-text =
       let few = kept-length h in
       rw (
         few,
         place-at (part .count - 1) (omega arith),
-        concat-cong (part .count - 1) line (λ i. keptLine call (getD (kept part) i 0))
-            (λ i l. ap (keptLine call) (place-at i (omega arith))),
+        concat-cong (part .count - 1) line (λ i. lineAt i (getD (kept part) i 0))
+            (λ i l. ap (lineAt i) (place-at i (omega arith))),
       )
 
   pub part-printed : {b m a : List ℕ} {at r s : ℕ}
-      → Appends ((part .count - 1) * keptBytes longest) b at (concatBelow (part .count - 1) line) m r
-      → Appends (lastBytes longest) m r (lastLine call (getD (part .places) (part .count - 1) 0) n) a s
-      → Appends partBytes b at (partText call (kept part) n) a s
+      → Appends ((part .count - 1) * sentBytes longest) b at (concatBelow (part .count - 1) line) m r
+      → Appends (lastBytes longest) m r (lastAt (getD (part .places) (part .count - 1) 0)) a s
+      → Appends partBytes b at (partText call (kept part) rooms n) a s
   part-printed {b} {a = a} {at} {s = s} p q =
       subst (λ (text : List ℕ). Appends partBytes b at text a s) printed-text
       (at-most (p then q) (omega (arith, h .within)))

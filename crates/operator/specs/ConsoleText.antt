@@ -1,35 +1,53 @@
 -- The whole output of `console`, as bytes, and its promise.
 use Prim.Native.Nat.{ℕ, _+_, _-_, _*_, max}
+use mathlib.Core.Bool.{Bool, true, false, cond}
 use mathlib.Core.List.{List, _++_}
 use lib.ListN.{length, getD}
 use Rattle.model.specs.declared.Record.{Record}
-use Rattle.model.specs.declared.Record.the-variants.{Recover}
+use Rattle.model.specs.declared.Record.the-variants.{Call, Recover}
+use Rattle.model.specs.declared.Step.the-variants.{Send, Receive, Begin, PhysicalCheckpoint}
+use Rattle.model.specs.declared.Step.the-variants.{LogicalCheckpoint, SendMarker, Commit, Abort}
 use Rattle.model.specs.Notation.{concatBelow}
 use Rattle.model.specs.Topology.{channelLimit}
 use Rattle.model.specs.Layout.{storeCells}
 use Rattle.model.specs.Record.{writeRecord}
-use Rattle.model.specs.CallList.{listLimit}
+use Rattle.model.specs.CallList.{listLimit, rooms}
+use Rattle.model.specs.Reduction.{callsAt}
 use Rattle.record.specs.Written.{longest}
 use Rattle.report.specs.Appends.{WholeText}
-use Rattle.report.specs.Hex.{planLineText, keptText, lastText, refusedText}
+use Rattle.report.specs.Hex.{planLineText, keptText, sentText, lastText, refusedText}
 use Rattle.report.specs.Text.{chars, planRefusedText}
 use Rattle.report.specs.Changed.{changedText}
-use Rattle.report.specs.TextBytes.{planLineBytes, keptBytes, lastBytes, cellBytes}
+use Rattle.report.specs.TextBytes.{planLineBytes, sentBytes, lastBytes, cellBytes}
 use Rattle.operator.specs.Answer.{Answer, planRefused, refused, reduced, carried, PartIn}
 use Rattle.operator.specs.Console.{console}
 
--- the line of a kept call, and of the last one, which is refused with n: a call's number in the list counts from 1
-abbrev pub keptLine : (ℕ → Record) → ℕ → List ℕ
-keptLine call place = keptText (writeRecord (call place)) (place + 1)
+-- whether a call is a send
+abbrev pub isSend : Record → Bool
+isSend (Call (Send c b)) = true
+isSend (Call (Receive c)) = false
+isSend (Call Begin) = false
+isSend (Call (PhysicalCheckpoint p)) = false
+isSend (Call (LogicalCheckpoint p)) = false
+isSend (Call (SendMarker c)) = false
+isSend (Call Commit) = false
+isSend (Call Abort) = false
+isSend Recover = false
 
-abbrev pub lastLine : (ℕ → Record) → ℕ → ℕ → List ℕ
-lastLine call place n = lastText (writeRecord (call place)) (place + 1) n
+-- the line of a kept call, on which a send has how much room it says is left: a call's number in the list counts from 1
+abbrev pub keptLine : Record → ℕ → ℕ → List ℕ
+keptLine call place room =
+    cond (isSend call) (sentText (writeRecord call) (place + 1) room) (keptText (writeRecord call) (place + 1))
+
+-- the line of the last one, which is refused with n
+abbrev pub lastLine : Record → ℕ → ℕ → List ℕ
+lastLine call place n = lastText (writeRecord call) (place + 1) n
 
 -- "a line for each kept call [..], and on the last one ` refused ` and the number"
-abbrev pub partText : (ℕ → Record) → List ℕ → ℕ → List ℕ
-partText call part n =
-    concatBelow (length part - 1) (λ i. keptLine call (getD part i 0))
-    ++ lastLine call (getD part (length part - 1) 0) n
+abbrev pub partText : (ℕ → Record) → List ℕ → List ℕ → ℕ → List ℕ
+partText call part rooms n =
+    concatBelow (length part - 1) (λ i. keptLine (call (getD part i 0)) (getD part i 0) (getD rooms i 0))
+    ++ lastLine (call (getD part (length part - 1) 0)) (getD part (length part - 1) 0) n
 
 -- "It prints `done`, then a line `cell i v` for each cell that differs from its start, rising"
 abbrev pub doneText : List ℕ
@@ -39,7 +57,8 @@ doneText = chars "done\n"
 unfoldable pub answerText : Answer → List ℕ → List ℕ
 answerText (planRefused n) part = planRefusedText n
 answerText (refused n) part = refusedText n
-answerText (reduced plan T calls f) part = planLineText plan ++ partText (λ i. getD calls i Recover) part (f .number)
+answerText (reduced plan T calls f) part =
+    planLineText plan ++ partText (λ i. getD calls i Recover) part (rooms T (callsAt calls part)) (f .number)
 answerText (carried target) part = doneText ++ changedText target
 
 -- How many bytes an output has at most: a plan's are its two sizes and the two ends of each channel.
@@ -47,12 +66,12 @@ abbrev pub planBytes : ℕ
 planBytes = 2 + 2 * channelLimit
 
 abbrev pub partBytes : ℕ
-partBytes = (listLimit - 1) * keptBytes longest + lastBytes longest
+partBytes = (listLimit - 1) * sentBytes longest + lastBytes longest
 
 abbrev pub doneBytes : ℕ
 doneBytes = 5
 
--- the longer of the two long ones: 9,370 bytes for a part, and 143,456 for the cells
+-- the longer of the two long ones: 13,450 bytes for a part, and 143,456 for the cells
 abbrev pub consoleBytes : ℕ
 consoleBytes = max (planLineBytes planBytes + partBytes) (doneBytes + storeCells * cellBytes)
 

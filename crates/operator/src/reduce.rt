@@ -33,7 +33,8 @@ pub fn reduce(bytes: &[u8], out: &mut [u8]) -> usize
         Found::Failure(_, r) => {
             let at = report::plan_line(out, 0, plan::own(bytes));
             let part = reduced.part;
-            print::part(list, part, r, out, at)
+            let rooms = reduced.rooms;
+            print::part(list, part, rooms, r, out, at)
         }
     }
 }

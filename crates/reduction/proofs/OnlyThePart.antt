@@ -38,9 +38,10 @@ fixed : (T : Topology) (calls : List Record) (r s : Reduced) → Reduces T calls
 fixed T calls r s p q e =
     let a : r .found ≡ s .found = found-fixed (r .found) (s .found) (p .answer ∙ sym (q .answer)) in
     let b : r .part ≡ s .part = part-fixed (p .held) (q .held) e in
-    let from : Found → Part → Reduced = λ x y. record { found = x; part = y } in
-    let both : from (r .found) (r .part) ≡ from (s .found) (s .part) = rw (a, b) in
-    both
+    let c : r .rooms ≡ s .rooms = p .rooms ∙ rw e (sym (q .rooms)) in
+    let from : Found → Part → List ℕ → Reduced = λ x y z. record { found = x; part = y; rooms = z } in
+    let all : from (r .found) (r .part) (r .rooms) ≡ from (s .found) (s .part) (s .rooms) = rw (a, b, c) in
+    all
 
 pub only-the-part : OpenInThePart
 only-the-part =

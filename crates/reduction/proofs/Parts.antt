@@ -1,9 +1,9 @@
 -- Laws of parts: an array whose first places are filled, and a list without a block of its places.
 use Prim.Native.Nat.{ℕ, _+_, _-_, _<_, _≤_}
 use mathlib.Core.Path.{_≡_, refl, sym, ap, _∙_}
-use mathlib.Core.List.{List, _++_, map}
+use mathlib.Core.List.{List, map}
 use lib.ListN.{length, getD, set, take, drop, replicate, length-append, length-take, length-drop, length-replicate}
-use lib.ListN.{length-set, length-map, List·getD-append, List·getD-map}
+use lib.ListN.{length-set, length-map, List·getD-append, List·getD-map, List·getD-eq-default}
 use lib.Seq.{ext-getD, take-at, getD-take, getD-drop, getD-append-add, length-take-le}
 use lib.Dec.{ltb}
 use borrow.Author.Tests.{le-ltb, ltb-true, ltb-false}
@@ -17,7 +17,7 @@ use Rattle.model.proofs.laws.Tests.{Tested, test, holds, fails}
 use Rattle.model.proofs.laws.Lists.{tabulate-length, tabulate-at}
 use Rattle.model.proofs.laws.Functions.{seen-replicate, filledBelow, filled-none, filled-more, getD-within}
 use Rattle.reduction.specs.declared.part.Part.{Part}
-use Rattle.reduction.specs.Parts.{kept, holding, Held, withoutBlock, past}
+use Rattle.reduction.specs.Parts.{kept, padded, holding, Held, withoutBlock, past}
 
 -- the first n places of a list
 abbrev pub numbers : ℕ → List ℕ
@@ -33,6 +33,18 @@ numbers-at n i l = tabulate-at n (λ i. i) i 0 l
 abbrev unused : List ℕ → List ℕ
 unused xs = replicate (listLimit - length xs) 0
 
+-- an array that begins with these numbers has them, and 0 past them
+pub padded-at : (xs : List ℕ) (i : ℕ) → getD (padded xs) i 0 ≡ getD xs i 0
+padded-at xs i = go (test (ltb i (length xs)))
+  where
+    go : Tested (ltb i (length xs)) → getD (padded xs) i 0 ≡ getD xs i 0
+    go (holds t) = List·getD-append xs _ 0 i (ltb-true _ _ t)
+    go (fails t) =
+        let past-end : i ≡ length xs + (i - length xs) = omega (arith, ltb-false i (length xs) t) in
+        ap (λ (m : ℕ). getD (padded xs) m 0) past-end ∙ getD-append-add xs (unused xs) (i - length xs) 0
+        ∙ ap (λ (f : ℕ → ℕ). f (i - length xs)) (seen-replicate (listLimit - length xs) 0)
+        ∙ sym (List·getD-eq-default xs 0 {n = i} (ltb-false i (length xs) t))
+
 -- the places that a held part keeps
 pub kept-holding : (xs : List ℕ) → kept (holding xs) ≡ xs
 unfolding holding
@@ -46,6 +58,10 @@ module _ {part : Part} (h : Held part) where
 
   pub kept-at : (i : ℕ) → i < part .count → getD (kept part) i 0 ≡ getD (part .places) i 0
   kept-at i l = getD-take (part .count) (part .places) i 0 l
+
+  -- its calls are no more than a list can have
+  pub held-calls : (list : CallList) → length (map (callAt list) (kept part)) ≤ listLimit
+  held-calls list = simp length-map (rw kept-length (h .within))
 
   -- the i-th call of the part, as the code finds it
   pub call-at : (list : CallList) (i : ℕ) → i < part .count
@@ -79,27 +95,24 @@ module _ {xs : List ℕ} where
           filled = filled-more (λ x. x) places 0 _ i _ 0 room (p .filled) e;
         }
 
-    pub all-filled : {count : ℕ} → length xs ≤ i → length xs ≤ listLimit → count ≡ length xs
-        → record { places = places; count = count } ≡ holding xs
-    unfolding holding
-    all-filled {count} l few e =
+    pub all-filled : length xs ≤ i → length xs ≤ listLimit → places ≡ padded xs
+    all-filled l few =
         let at-end : i ≡ length xs = omega (arith, p .within) in
         let seen = rw at-end at (p .filled) in
         let whole : length xs + length (unused xs) ≡ listLimit = simp length-replicate (omega arith) in
-        let same : places ≡ xs ++ unused xs =
-        ext-getD 0 places (xs ++ unused xs)
+        ext-getD 0 places (padded xs)
         (p .room ∙ sym (length-append xs (unused xs) ∙ whole))
-        (λ j k. ap (λ (f : ℕ → ℕ). f j) seen ∙ sym (held j (test (ltb j (length xs))))) in
-        rw (same, e)
+        (λ j k. ap (λ (f : ℕ → ℕ). f j) seen ∙ (below-end j (test (ltb j (length xs))) ∙ sym (padded-at xs j)))
       where
-        held : (j : ℕ) → Tested (ltb j (length xs))
-            → getD (xs ++ unused xs) j 0 ≡ filledBelow (length xs) (λ k. getD xs k 0) 0 j
-        held j (holds t) = rw t (List·getD-append xs _ 0 j (ltb-true _ _ t))
-        held j (fails t) =
-            let past-end : j ≡ length xs + (j - length xs) = omega (arith, ltb-false j (length xs) t) in
-            rw t
-            (ap (λ (m : ℕ). getD (xs ++ unused xs) m 0) past-end ∙ getD-append-add xs (unused xs) (j - length xs) 0
-            ∙ ap (λ (f : ℕ → ℕ). f (j - length xs)) (seen-replicate (listLimit - length xs) 0))
+        below-end : (j : ℕ) → Tested (ltb j (length xs))
+            → filledBelow (length xs) (λ k. getD xs k 0) 0 j ≡ getD xs j 0
+        below-end j (holds t) = rw t
+        below-end j (fails t) = rw t (sym (List·getD-eq-default xs 0 {n = j} (ltb-false j (length xs) t)))
+
+    pub part-filled : {count : ℕ} → length xs ≤ i → length xs ≤ listLimit → count ≡ length xs
+        → record { places = places; count = count } ≡ holding xs
+    unfolding holding
+    part-filled l few e = rw (all-filled l few, e)
 
 -- past a gap, places are within the list, and rise
 pub past-within : (from gap n i : ℕ) → i < n - gap → past from gap i < n

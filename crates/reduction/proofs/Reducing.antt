@@ -1,6 +1,6 @@
 -- Laws of the whole answer: each refusal in its order, and a part.
 use Prim.Native.Nat.{ℕ, _<_, _≤_}
-use mathlib.Core.Path.{_≡_, sym}
+use mathlib.Core.Path.{_≡_, sym, ap, _∙_}
 use mathlib.Core.List.{List, []}
 use mathlib.Core.Option.{Option, none, some}
 use lib.ListN.{length}
@@ -9,19 +9,25 @@ use borrow.Author.Tests.{lt-ltb, le-ltb, leb-true, leb-false}
 use native.Mathlib.Omega.{arith}
 use Rattle.model.specs.declared.Topology.{Topology}
 use Rattle.model.specs.declared.Record.{Record}
+use Rattle.model.specs.declared.CallList.{CallList}
 use Rattle.model.specs.declared.Refusal.{Refusal}
 use Rattle.model.specs.Notation.{orElse}
 use Rattle.model.specs.Check.{firstRefusal}
 use Rattle.model.specs.Outcome.{refusalNumber}
 use Rattle.model.specs.Topology.{topologyRefusal}
-use Rattle.model.specs.CallList.{listLimit, Failure, firstFailure}
+use Rattle.model.specs.Run.{trace}
+use Rattle.model.specs.CallList.{listed, listLimit, Failure, firstFailure, replies, roomsOf, rooms}
 use Rattle.model.specs.Reduction.{refuses, finds, listRefusal, soughtBy, sought, Smallest}
 use Rattle.model.proofs.laws.Tests.{Tested, test, holds, fails}
 use Rattle.reduction.specs.declared.part.Part.{Part}
 use Rattle.reduction.specs.declared.Found.the-variants as found
-use Rattle.reduction.specs.Parts.{kept, Held}
+use Rattle.reduction.specs.declared.replay.Replayed.{Replayed}
+use Rattle.reduction.specs.Parts.{kept, padded, Held}
+use Rattle.reduction.specs.Replays.{Replays, calls}
 use Rattle.reduction.specs.Reduces.{refusedBy, Reduces}
 use Rattle.reduction.proofs.Parts.{kept-holding, held-holding}
+use Rattle.reduction.proofs.Shrinking.{below, calls-at}
+use Rattle.reduction.proofs.Wholes.{listed-place}
 
 module _ (T : Topology) (calls : List Record) where
   -- 18, then the plan's, then 17 or the failure
@@ -64,11 +70,29 @@ module _ (T : Topology) (calls : List Record) where
           omega (arith, absurdly)
 
   pub refused-reduces : (r : Refusal) → sought T calls ≡ refuses (refusalNumber r) → Reduces T calls (refusedBy r)
+  unfolding replies trace roomsOf rooms
   refused-reduces r e =
-      record { answer = sym e; part = rw e (kept-holding []); held = held-holding [] (omega arith) }
+      record {
+        answer = sym e;
+        part = rw e (kept-holding []);
+        held = held-holding [] (omega arith);
+        rooms = rw (kept-holding []);
+      }
 
-  pub failure-reduces : (place : ℕ) (r : Refusal) (part : Part)
-      → let f : Failure = record { place = place; number = refusalNumber r } in
-      sought T calls ≡ finds f → Held part → Smallest T calls f (kept part)
-      → Reduces T calls (record { found = found.Failure place r; part = part })
-  failure-reduces place r part e held s = record { answer = sym e; part = rw e s; held = held }
+-- a part that was found, and replayed once more
+pub failure-reduces : (T : Topology) (list : CallList) (place : ℕ) (r : Refusal) (part : Part) {x : Replayed}
+    → let f : Failure = record { place = place; number = refusalNumber r } in
+    sought T (listed list) ≡ finds f → Held part → Smallest T (listed list) f (kept part)
+    → Replays (replies T (calls list part)) x
+    → Reduces T (listed list) (record { found = found.Failure place r; part = part; rooms = x .rooms })
+unfolding rooms
+failure-reduces T list place r part {x} e held s m =
+    let at : place < list .count = listed-place T list _ (found-first T (listed list) e) in
+    let inside = below (list .count) (kept part) (s .fails .rising) (rw (s .fails .last) at) in
+    let same = calls-at list (kept part) inside in
+    record {
+      answer = sym e;
+      part = rw e s;
+      held = held;
+      rooms = m .rooms ∙ ap (λ (cs : List Record). padded (roomsOf (replies T cs))) same;
+    }

@@ -33,7 +33,7 @@ below n xs rising last i l = go (indices i (length xs - 1))
     go (other e) = omega (arith, last, rising i (length xs - 1) (omega (arith, e)) (omega arith))
 
 -- the calls at such places, by the list's array and by its calls
-calls-at : (list : CallList) (xs : List ℕ) → ((i : ℕ) → i < length xs → getD xs i 0 < list .count)
+pub calls-at : (list : CallList) (xs : List ℕ) → ((i : ℕ) → i < length xs → getD xs i 0 < list .count)
     → map (callAt list) xs ≡ callsAt (listed list) xs
 unfolding listed
 calls-at list [] h = refl

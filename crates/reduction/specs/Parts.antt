@@ -12,9 +12,13 @@ use Rattle.reduction.specs.declared.part.Part.{Part}
 abbrev pub kept : Part → List ℕ
 kept part = take (part .count) (part .places)
 
--- a part of these places, with 0 in the places after them
+-- an array that begins with these numbers, with 0 in the places after them
+abbrev pub padded : List ℕ → List ℕ
+padded xs = xs ++ replicate (listLimit - length xs) 0
+
+-- a part of these places
 unfoldable pub holding : List ℕ → Part
-holding places = record { places = places ++ replicate (listLimit - length places) 0; count = length places }
+holding places = record { places = padded places; count = length places }
 
 -- a part that holds no more places than there are, and 0 in those after them
 pub record Held (part : Part) : Type 0 where

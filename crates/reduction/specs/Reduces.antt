@@ -5,11 +5,12 @@ use Rattle.model.specs.declared.Topology.{Topology}
 use Rattle.model.specs.declared.Record.{Record}
 use Rattle.model.specs.declared.Refusal.{Refusal}
 use Rattle.model.specs.Outcome.{refusalNumber}
-use Rattle.model.specs.Reduction.{Sought, refuses, finds, sought, PartFor}
+use Rattle.model.specs.CallList.{rooms}
+use Rattle.model.specs.Reduction.{Sought, refuses, finds, callsAt, sought, PartFor}
 use Rattle.reduction.specs.declared.Found.{Found}
 use Rattle.reduction.specs.declared.Found.the-variants as found
 use Rattle.reduction.specs.declared.Reduced.{Reduced}
-use Rattle.reduction.specs.Parts.{kept, holding, Held}
+use Rattle.reduction.specs.Parts.{kept, padded, holding, Held}
 
 -- what each case of the code's answer says
 abbrev pub soughtIn : Found → Sought
@@ -18,12 +19,14 @@ soughtIn (found.Refused r) = refuses (refusalNumber r)
 
 -- a refusal, and the empty part
 abbrev pub refusedBy : Refusal → Reduced
-refusedBy r = record { found = found.Refused r; part = holding [] }
+refusedBy r = record { found = found.Refused r; part = holding []; rooms = padded [] }
 
 -- The refusal, or the list's first failure with its number, is the definition's. The part is one that the definition
 -- allows and no more is said of it: "Which of several such parts comes back is left open." But it comes back in one
--- way: its places, how many they are, and 0 in the places after them.
+-- way: its places, how many they are, and 0 in the places after them. With it comes how much room each of its calls
+-- says is left, where the part is run.
 pub record Reduces (T : Topology) (calls : List Record) (r : Reduced) : Type 0 where
   pub answer : soughtIn (r .found) ≡ sought T calls
   pub part : PartFor T calls (sought T calls) (kept (r .part))
   pub held : Held (r .part)
+  pub rooms : r .rooms ≡ padded (rooms T (callsAt calls (kept (r .part))))

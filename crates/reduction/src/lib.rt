@@ -21,10 +21,12 @@ pub enum Found {
     Refused(Refusal),
 }
 
-// With it comes a smallest part that fails so; the empty part where there is none.
+// With it comes a smallest part that fails so; the empty part where there is none. And how much room each call of the
+// part said is left: 0 for one that is no send, for the last one, and in the places after.
 pub struct Reduced {
     pub found: Found,
     pub part: Part,
+    pub rooms: [u8; LISTED],
 }
 
 // A refusal, and the empty part.
@@ -35,6 +37,7 @@ fn refused(refusal: Refusal) -> Reduced
     Reduced {
         found: Found::Refused(refusal),
         part,
+        rooms: [0; LISTED],
     }
 }
 
@@ -49,13 +52,18 @@ pub fn reduce(topology: Topology, list: CallList) -> Reduced
         return refused(r);
     }
     let all = part::first(list.count);
-    let End::Refused(place, refusal) = replay::replay(topology, list, all) else {
+    let replayed = replay::replay(topology, list, all);
+    let end = replayed.end;
+    let End::Refused(place, refusal) = end else {
         return refused(Refusal::NothingRefused);
     };
     let whole = part::first(place + 1);
     let part = shrink::shrink(topology, list, whole, refusal);
+    let smallest = replay::replay(topology, list, part);
+    let rooms = smallest.rooms;
     Reduced {
         found: Found::Failure(place, refusal),
         part,
+        rooms,
     }
 }

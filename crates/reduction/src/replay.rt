@@ -1,6 +1,7 @@
 // A part of a list, run from setup with full current, up to its first refusal.
 use crate::part::Part;
 use model::CallList;
+use model::LISTED;
 use model::Outcome;
 use model::Record;
 use model::Refusal;
@@ -11,10 +12,10 @@ use model::Verdict;
 use rules::layout::STORE_CELLS;
 use rules::refusal::number;
 ghost use mathlib.Core.Path.{_≡_};
-ghost use Rattle.model.specs.Outcome.{refusalNumber, refusalOf, refusedWith, saidBy};
-ghost use Rattle.model.specs.CallList.{firstFailure};
+ghost use Rattle.model.specs.Outcome.{refusalNumber, refusalOf, refusedWith, roomSaid, saidBy};
+ghost use Rattle.model.specs.CallList.{replies, firstFailure};
 ghost use Rattle.reduction.specs.Parts.{Held};
-ghost use Rattle.reduction.specs.Replays.{endOf, failureFrom, calls, endsWith};
+ghost use Rattle.reduction.specs.Replays.{Replays, repliesFrom, calls, endsWith};
 
 // More writes than any step makes.
 const FULL: u32 = u32::MAX;
@@ -25,12 +26,19 @@ pub enum End {
     Through,
 }
 
+// With it comes how much room each call before that said is left: 0 for one that is no send, and in the places after.
+pub struct Replayed {
+    pub end: End,
+    pub rooms: [u8; LISTED],
+}
+
 // What a step's outcome says of refusals.
 fn verdict(outcome: Outcome) -> Verdict
     ensures { λ r. ⌜ refusalOf r ≡ refusedWith (saidBy outcome) ⌝ }
 {
     match outcome {
         Outcome::Done => Verdict::Pass,
+        Outcome::Sent(_) => Verdict::Pass,
         Outcome::Received(_) => Verdict::Pass,
         Outcome::ReceivedMarker => Verdict::Pass,
         Outcome::Refused(r) => Verdict::Refuse(r),
@@ -38,24 +46,42 @@ fn verdict(outcome: Outcome) -> Verdict
     }
 }
 
+// What a step's outcome says of room: a send's count, and 0 of any other.
+fn room(outcome: Outcome) -> u8
+    ensures { λ r. ⌜ r ≡ roomSaid (saidBy outcome) ⌝ }
+{
+    match outcome {
+        Outcome::Done => 0,
+        Outcome::Sent(left) => left,
+        Outcome::Received(_) => 0,
+        Outcome::ReceivedMarker => 0,
+        Outcome::Refused(_) => 0,
+        Outcome::PowerLost => 0,
+    }
+}
+
 // The calls of a part, from this state and store on. (Each call stands in the loop: a function for one call would
 // cost two copies of the state.)
-fn run(topology: Topology, list: CallList, part: Part, first: State, store: &mut [u32]) -> End
+fn run(topology: Topology, list: CallList, part: Part, first: State, store: &mut [u32]) -> Replayed
     requires { ⌜ Held part ⌝ }
-    ensures { λ r. ⌜ endOf r ≡ failureFrom topology first (now (store .entry)) (calls list part) ⌝ }
+    ensures { λ r. ⌜ Replays (repliesFrom topology first (now (store .entry)) (calls list part)) r ⌝ }
 {
     let mut state = first;
+    let mut rooms = [0; LISTED];
     let mut i: u16 = 0;
     while i < part.count {
         let listed = list.calls[part.places[i as usize] as usize];
         let content = listed.content;
+        let mut left = 0;
         match content {
             Record::Call(step) => {
                 let answer = engine::step(state, step, store, FULL);
                 let outcome = answer.outcome;
                 if let Verdict::Refuse(r) = verdict(outcome) {
-                    return End::Refused(i, r);
+                    let end = End::Refused(i, r);
+                    return Replayed { end, rooms };
                 }
+                left = room(outcome);
                 let after = answer.state;
                 state = after;
             }
@@ -63,21 +89,24 @@ fn run(topology: Topology, list: CallList, part: Part, first: State, store: &mut
                 let started = recovery::recover(topology, store);
                 let start = started.start;
                 if let Start::Refused(r) = start {
-                    return End::Refused(i, r);
+                    let end = End::Refused(i, r);
+                    return Replayed { end, rooms };
                 }
                 let after = started.state;
                 state = after;
             }
         }
+        rooms[i as usize] = left;
         i += 1;
     }
-    End::Through
+    let end = End::Through;
+    Replayed { end, rooms }
 }
 
 // In a store of its own, which starts as zeros each time.
-pub fn replay(topology: Topology, list: CallList, part: Part) -> End
+pub fn replay(topology: Topology, list: CallList, part: Part) -> Replayed
     requires { ⌜ Held part ⌝ }
-    ensures { λ r. ⌜ endOf r ≡ firstFailure topology (calls list part) ⌝ }
+    ensures { λ r. ⌜ Replays (replies topology (calls list part)) r ⌝ }
 {
     let mut store = [0u32; STORE_CELLS];
     let started = engine::initialize(topology, &mut store);
@@ -90,7 +119,9 @@ pub fn fails(topology: Topology, list: CallList, part: Part, refusal: Refusal) -
     requires { ⌜ Held part ⌝ }
     ensures { λ r. ⌜ r ≡ endsWith (firstFailure topology (calls list part)) (part .count) (refusalNumber refusal) ⌝ }
 {
-    let End::Refused(i, r) = replay(topology, list, part) else {
+    let replayed = replay(topology, list, part);
+    let end = replayed.end;
+    let End::Refused(i, r) = end else {
         return false;
     };
     i + 1 == part.count && number(r) == number(refusal)

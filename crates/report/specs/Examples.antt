@@ -7,7 +7,7 @@ use Rattle.model.specs.Outcome.{refused, cut}
 use Rattle.model.specs.Program.{head}
 use Rattle.model.specs.Cases.{input}
 use Rattle.report.specs.Text.{chars, saidLine, cellText, outputText}
-use Rattle.report.specs.Hex.{planLineText, keptText, lastText, refusedText}
+use Rattle.report.specs.Hex.{planLineText, keptText, sentText, lastText, refusedText}
 
 -- each line with its end
 unfoldable pub lines : List String → List ℕ
@@ -28,9 +28,9 @@ examples =
           ("1 done 4"
           ∷ "2 done 1"
           ∷ "3 done 1"
-          ∷ "4 done 0"
+          ∷ "4 sent 7 0"
           ∷ "5 done 0"
-          ∷ "6 done 0"
+          ∷ "6 sent 7 0"
           ∷ "7 took 7 0"
           ∷ "8 took 5 2"
           ∷ "9 done 0"
@@ -51,13 +51,16 @@ examples =
     -- `drill` alone
     ∷ record { got = saidLine 5 cut 3; expected = lines ("5 cut 3" ∷ []) }
     ∷ record { got = cellText 3264 4294967295; expected = lines ("cell 3264 4294967295" ∷ []) }
-    -- `console`: a plan, a kept call and the last one, and where none is shown
+    -- `console`: a plan, a kept send, another kept call and the last one, and where none is shown
     ∷ record {
       got =
           planLineText (0x02 ∷ 0x01 ∷ 0x00 ∷ 0x01 ∷ [])
-          ++ keptText (0x09 ∷ 0x01 ∷ 0x01 ∷ 0x00 ∷ 0x00 ∷ 0x00 ∷ []) 4
+          ++ sentText (0x09 ∷ 0x01 ∷ 0x01 ∷ 0x00 ∷ 0x00 ∷ 0x00 ∷ []) 4 7
+          ++ keptText (0x01 ∷ 0x03 ∷ []) 5
           ++ lastText (0x05 ∷ 0x02 ∷ 0x01 ∷ []) 9 8;
-      expected = lines ("02 01 00 01" ∷ "09 01 01 00 00 00 # 4" ∷ "05 02 01 # 9 refused 8" ∷ []);
+      expected =
+          lines
+          ("02 01 00 01" ∷ "09 01 01 00 00 00 # 4 sent 7" ∷ "01 03 # 5" ∷ "05 02 01 # 9 refused 8" ∷ []);
     }
     ∷ record { got = keptText (0xFA ∷ 0x9C ∷ []) 10; expected = lines ("FA 9C # 10" ∷ []) }
     ∷ record { got = refusedText 17; expected = lines ("refused 17" ∷ []) }

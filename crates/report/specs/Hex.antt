@@ -35,6 +35,10 @@ callText bytes number = hexBytes bytes ++ chars " # " ++ decimal number
 abbrev pub keptText : List ℕ → ℕ → List ℕ
 keptText bytes number = callText bytes number ++ chars "\n"
 
+-- document 02, M-104: after a kept send's, "`sent`, that count"
+abbrev pub sentText : List ℕ → ℕ → ℕ → List ℕ
+sentText bytes number room = callText bytes number ++ named (chars " sent") (room ∷ [])
+
 -- "on the last one ` refused ` and the number" of the refusal
 abbrev pub lastText : List ℕ → ℕ → ℕ → List ℕ
 lastText bytes number n = callText bytes number ++ named (chars " refused") (n ∷ [])

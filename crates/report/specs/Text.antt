@@ -8,7 +8,7 @@ use mathlib.Core.List.{List, [], _∷_, _++_}
 use lib.ListN.{length, getD}
 use lib.Dec.{ltb}
 use Rattle.model.specs.Notation.{concatBelow}
-use Rattle.model.specs.Outcome.{Said, done, took, note, line, refused, cut, saidValues}
+use Rattle.model.specs.Outcome.{Said, done, sent, took, note, line, refused, cut, saidValues}
 use Rattle.model.specs.Program.{Line, Output, planRefused, ran}
 
 -- the codes of a text's characters
@@ -35,10 +35,11 @@ unfoldable pub values : List ℕ → List ℕ
 values [] = []
 values (v ∷ vs) = chars " " ++ decimal v ++ values vs
 
--- "Outcomes: `done`; `took` and body; `note`; `line` and its number for a restart; `refused` and number". `drill` alone
--- has `cut`, for a step whose power was lost.
+-- "Outcomes: `done`; `took` and body; `note`; `line` and its number for a restart; `refused` and number"; document 02,
+-- M-104: "The program prints `sent`, that count". `drill` alone has `cut`, for a step whose power was lost.
 unfoldable pub saidName : Said → String
 saidName done = "done"
+saidName (sent room) = "sent"
 saidName (took body) = "took"
 saidName note = "note"
 saidName (line k) = "line"

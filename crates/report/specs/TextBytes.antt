@@ -9,7 +9,7 @@ numberBytes = 10
 abbrev pub valueBytes : ℕ
 valueBytes = 1 + numberBytes
 
--- "took 4294967295" and "line 4294967295"; a refusal's number is a byte
+-- "took 4294967295" and "line 4294967295"; the count after `sent` and a refusal's number are bytes
 abbrev pub saidBytes : ℕ
 saidBytes = 4 + valueBytes
 
@@ -47,6 +47,9 @@ callBytes k = hexBytesBytes k + 3 + numberBytes
 
 abbrev pub keptBytes : ℕ → ℕ
 keptBytes k = callBytes k + 1
+
+abbrev pub sentBytes : ℕ → ℕ
+sentBytes k = callBytes k + namedBytes 5 1
 
 abbrev pub lastBytes : ℕ → ℕ
 lastBytes k = callBytes k + namedBytes 8 1

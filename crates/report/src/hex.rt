@@ -10,9 +10,9 @@ ghost use lib.ListN.{length};
 ghost use Rattle.model.specs.Outcome.{refusalNumber};
 ghost use Rattle.report.specs.Appends.{Appends};
 ghost use Rattle.report.specs.TextBytes.{hexBytesBytes, planLineBytes, callBytes, keptBytes, lastBytes};
-ghost use Rattle.report.specs.TextBytes.{refusedBytes};
+ghost use Rattle.report.specs.TextBytes.{sentBytes, refusedBytes};
 ghost use Rattle.report.specs.Hex.{hexDigit, hexByte, hexBytes, planLineText, callText, keptText, lastText};
-ghost use Rattle.report.specs.Hex.{refusedText};
+ghost use Rattle.report.specs.Hex.{sentText, refusedText};
 
 // The character of a hexadecimal digit.
 fn hex_digit(d: u8) -> u8
@@ -73,6 +73,16 @@ pub fn kept_line(out: &mut [u8], at: usize, bytes: &[u8], number: u32) -> usize
 {
     let next = call(out, at, bytes, number);
     crate::bytes(out, next, b"\n")
+}
+
+// The line of a kept send, with how much room it said is left.
+pub fn sent_line(out: &mut [u8], at: usize, bytes: &[u8], number: u32, room: u8) -> usize
+    ensures { λ r. ⌜ Appends (sentBytes (length (now (bytes .entry)))) (now (out .entry)) at
+        (sentText (now (bytes .entry)) number room) (now (out .exit)) r ⌝ }
+{
+    let opened = call(out, at, bytes, number);
+    let next = crate::bytes(out, opened, b" sent");
+    last(out, next, room as u32)
 }
 
 // The line for a list that is refused with no call shown.

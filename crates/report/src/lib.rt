@@ -8,6 +8,7 @@ pub use hex::kept_line;
 pub use hex::last_line;
 pub use hex::plan_line;
 pub use hex::refused_line;
+pub use hex::sent_line;
 use model::Channel;
 use model::Entry;
 use model::Outcome;
@@ -96,6 +97,10 @@ fn said(out: &mut [u8], at: usize, outcome: Outcome) -> usize
 {
     match outcome {
         Outcome::Done => bytes(out, at, b"done"),
+        Outcome::Sent(room) => {
+            let next = bytes(out, at, b"sent");
+            value(out, next, room as u32)
+        }
         Outcome::Received(body) => {
             let next = bytes(out, at, b"took");
             value(out, next, body)

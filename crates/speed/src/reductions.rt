@@ -56,8 +56,9 @@ pub fn run(topology: Topology, times: u32, script: &[u8]) -> u32 {
         let found = reduced.found;
         let part = reduced.part;
         let places = part.places;
+        let rooms = reduced.rooms;
         sum = fold(found_sum(sum, found), part.count as u32);
-        sum = byte_sum(sum, &places);
+        sum = byte_sum(byte_sum(sum, &places), &rooms);
         i += 1;
     }
     sum

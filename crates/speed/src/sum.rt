@@ -10,6 +10,7 @@ pub fn fold(sum: u32, value: u32) -> u32 {
 pub fn outcome_code(outcome: Outcome) -> u32 {
     match outcome {
         Outcome::Done => 1,
+        Outcome::Sent(room) => 200 + room as u32,
         Outcome::Received(body) => body,
         Outcome::ReceivedMarker => 2,
         Outcome::Refused(r) => 100 + rules::refusal::number(r) as u32,

@@ -1,16 +1,17 @@
--- Laws of lists of calls: a call is answered as `head` serves it, and a list's first failure, taken call by call.
+-- Laws of lists of calls: a call is answered as `head` serves it; a list's first failure, and what its sends say of
+-- room, taken call by call.
 use Prim.Native.Nat.{ℕ, _+_}
 use mathlib.Core.Path.{_≡_, refl}
-use mathlib.Core.List.{List, _∷_}
+use mathlib.Core.List.{List, [], _∷_}
 use mathlib.Core.Option.{none, some}
 use Rattle.model.specs.declared.Topology.{Topology}
 use Rattle.model.specs.declared.Record.{Record}
 use Rattle.model.specs.declared.Record.the-variants as records
-use Rattle.model.specs.Outcome.{refusedWith}
+use Rattle.model.specs.Outcome.{refusedWith, roomSaid}
 use Rattle.model.specs.Program.{ofAnswer, ofStartup, serve}
 use Rattle.model.specs.Run.{Call, World, replyTo, next, trace, stateAfter, storeAfter}
 use Rattle.model.specs.ProgramRuns.{callWith}
-use Rattle.model.specs.CallList.{failureOr, firstFrom}
+use Rattle.model.specs.CallList.{failureOr, firstFrom, roomsUnless, roomsOf}
 
 module _ (T : Topology) where
   -- a record is served as its call is answered
@@ -38,3 +39,14 @@ module _ (T : Topology) where
         → firstFrom place (trace T w (c ∷ cs)) ≡ firstFrom (place + 1) (trace T (next T w c) cs)
     unfolding trace firstFrom failureOr
     fails-later e = rw e
+
+  -- what the first of these calls says of room, unless it is refused
+  module _ (w : World) (c : Call) (cs : List Call) where
+    pub rooms-end : {n : ℕ} → refusedWith (replyTo T w c .outcome) ≡ some n → roomsOf (trace T w (c ∷ cs)) ≡ []
+    unfolding trace roomsOf roomsUnless
+    rooms-end e = rw e
+
+    pub rooms-go-on : refusedWith (replyTo T w c .outcome) ≡ none
+        → roomsOf (trace T w (c ∷ cs)) ≡ roomSaid (replyTo T w c .outcome) ∷ roomsOf (trace T (next T w c) cs)
+    unfolding trace roomsOf roomsUnless
+    rooms-go-on e = rw e

@@ -54,10 +54,12 @@ module _ (c : tie.After-replay) where
   unfolding refusalOf
   passes = sym (checked .check .ensures) ∙ ap refusalOf (c .before .before .enum-told .given .1)
 
-  ran : endOf (c .replay .result) ≡ firstFailure (start checked .args .topology) (listed (start checked .args .list))
+  ran : endOf (c .replay .result .end)
+      ≡ firstFailure (start checked .args .topology) (listed (start checked .args .list))
+  unfolding firstFailure
   ran =
       let all = all-calls (start checked .args .list) (c .before .first .ensures) in
-      c .replay .ensures ∙ ap (firstFailure (start checked .args .topology)) all
+      c .replay .ensures .end ∙ ap (firstFailure (start checked .args .topology)) all
 
 through : tie.Need-returns-3
 through c =
@@ -75,10 +77,10 @@ module _ (c : tie.After-known-told2) where
   given = start (checked replayed)
 
   abbrev failure : Failure
-  failure = record { place = c .before .place .given .0 .0; number = refusalNumber (c .before .place .given .0 .1 .0) }
+  failure = record { place = c .before .end .given .0 .0; number = refusalNumber (c .before .end .given .0 .1 .0) }
 
   fails : firstFailure (given .args .topology) (listed (given .args .list)) ≡ some failure
-  fails = sym (ran replayed) ∙ ap endOf (c .before .place .given .1)
+  fails = sym (ran replayed) ∙ ap endOf (c .before .end .given .1)
 
   within : failure .place < listLimit
   within =
@@ -90,7 +92,7 @@ module _ (c : tie.After-first2) where
   at = c .before
 
   abbrev refusal : Refusal
-  refusal = at .before .place .given .0 .1 .0
+  refusal = at .before .end .given .0 .1 .0
 
   whole : Failing (given at .args .topology) (given at .args .list) (failure at) (c .first2 .result)
   whole =
@@ -102,11 +104,13 @@ module _ (c : tie.After-first2) where
 
 found : tie.Need-returns-4
 found c =
-    let f = c .before in
-    let small = rw (last f) at (c .shrink .ensures) in
+    let replayed-part = c .before in
+    let shrunk = replayed-part .before in
+    let f = shrunk .before in
+    let small = rw (last f) at (shrunk .shrink .ensures) in
     let r = replayed (at f) in
     failure-reduces _ _ _ (refusal f) _ (sought-failure _ _ (few (checked r)) (passes r) (fails (at f))) (small .0)
-    (small .1)
+    (small .1) (replayed-part .replay2 .ensures)
 
 pub reduce-spec : {M : Type 1} → statement M
 reduce-spec =
@@ -115,4 +119,5 @@ reduce-spec =
     (λ c κs. search needs) plan (λ c. search needs) (λ c κs. fits (c .before .before))
     (λ c κs. held-places (fits (c .before .before .before)) (c .first .ensures)) (λ c. search needs) (λ c. search needs)
     (λ c κs. search needs) through (λ c. omega (arith, within c))
-    (λ c κs. omega (arith, within c)) (λ c κs. rw (last c) (whole c)) found)
+    (λ c κs. omega (arith, within c)) (λ c κs. rw (last c) (whole c))
+    (λ c κs. c .shrink .ensures .0) found)

@@ -3,13 +3,12 @@ use borrow.Author.Needs.{needs}
 use borrow.Author.Tests.{lt-ltb, le-ltb, eq-eqb, ne-eqb}
 use native.Mathlib.Omega.{arith}
 use Prim.Native.Nat.{ℕ, _<_, _≤_}
-use mathlib.Core.Path.{_≡_, sym, _∙_, ap}
+use mathlib.Core.Path.{_≡_, refl, sym, _∙_}
 use mathlib.Core.Bool.{false}
-use mathlib.Core.List.{List, [], _∷_, _++_}
+use mathlib.Core.List.{[], _∷_, _++_}
 use mathlib.Core.Option.{none, some}
 use lib.ListN.{length, getD}
 use Rattle.model.specs.declared.Channel.{Channel}
-use Rattle.model.specs.declared.Entry.{Entry}
 use Rattle.model.specs.declared.Entry.the-variants.{Message}
 use Rattle.model.specs.declared.State.{State}
 use Rattle.model.specs.declared.Step.the-variants.{Send}
@@ -23,7 +22,7 @@ use Rattle.model.specs.Step.{priorChecks, roomChecks, logChecks, ownChecks, eff
 use Rattle.engine.proofs.Bounds.{place-free, channel-bound, sender-bound, receiver-bound}
 use Rattle.engine.proofs.Lengths.{lengths}
 use Rattle.engine.proofs.Views.{channel-read, channel-set}
-use Rattle.engine.proofs.Promises.{quiet-refused, quiet-done}
+use Rattle.engine.proofs.Promises.{quiet-refused, quiet-accepted}
 use Rattle.engine.proofs.send.send.Statement.{statement}
 use Rattle.engine.proofs.send.send.Tie as tie
 
@@ -43,11 +42,13 @@ module _ (s : State) (c b : ℕ) where
     unfolding ownChecks priorChecks roomChecks logChecks hasChannel noRoomForMessage noRoom firstRefusal view
     passed k = rw (lt-ltb c (s .topology .channels) l, e, ne-eqb (roomLeft (entries x)) 0 k)
 
-    done : effect (view s) (Send c b)
-        ≡ quietly says.done
-        (setEntries c (entries x ++ (Message b (getD (s .tags) (getD (s .topology .from) c 0) false) ∷ [])) (view s))
-    unfolding effect sender view
-    done = rw e
+    -- and those of y once the message is on it
+    module _ (y : Channel)
+        (m : entries y ≡ entries x ++ (Message b (getD (s .tags) (getD (s .topology .from) c 0) false) ∷ [])) where
+      sent : {n : ℕ} → n ≡ roomLeft (entries y)
+          → effect (view s) (Send c b) ≡ quietly (says.sent n) (setEntries c (entries y) (view s))
+      unfolding effect sender view
+      sent q = rw (q, m, e)
 
 -- a planned channel is one of the array
 abbrev start : tie.Else1 → tie.Start
@@ -90,15 +91,18 @@ module _ (e : tie.Else2) where
   receiver-within = receiver-bound _ (given .pre) _ (planned e .if1 .left)
 
 returns-3 : tie.Need-returns-3
+unfolding says.accepted
 returns-3 c =
-    let e = c .before .before .before in
+    let pushed = c .before in
+    let e = pushed .before .before .before in
     let d = planned e in
     let a = start d .args in
     let read = channel-read (a .t1) (a .channel) (within d) _ in
-    quiet-done (a .t1) _ (passed (a .t1) (a .channel) (a .body) (d .if1 .left) _ read (λ none. e .if2 .left (e .before .room .ensures ∙ none))) _
-    (done (a .t1) (a .channel) (a .body) (d .if1 .left) _ read) _
-    (channel-set (a .t1) (a .channel) (within d) (c .push .result)
-    ∙ ap (λ (es : List Entry). setEntries (a .channel) es (view (a .t1))) (c .push .ensures))
+    quiet-accepted (a .t1) _
+    (passed (a .t1) (a .channel) (a .body) (d .if1 .left) _ read
+    (λ none. e .if2 .left (e .before .room .ensures ∙ none))) _ refl _
+    (sent (a .t1) (a .channel) (a .body) (d .if1 .left) _ read _ (pushed .push .ensures) (c .room2 .ensures)) _
+    (channel-set (a .t1) (a .channel) (within d) (pushed .push .result))
 
 pub send-spec : {M : Type 1} → statement M
 send-spec =
@@ -117,4 +121,5 @@ send-spec =
     (λ c κs. place-free _ (c .before .before .before .room .ensures) (c .before .before .if2 .left))
     (λ c. search needs)
     (λ c. below (planned (c .before .before .before)))
+    (λ c κs. search needs)
     returns-3)

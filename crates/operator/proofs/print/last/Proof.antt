@@ -1,6 +1,6 @@
 -- `print::last` meets its contract: the bytes that were written are the call's.
 use borrow.Author.Needs.{needs}
-use Rattle.operator.proofs.Printed.{written-count, written-within, last-printed}
+use Rattle.operator.proofs.Printed.{written-count, written-within, line-printed}
 use Rattle.operator.proofs.print.last.Statement.{statement}
 use Rattle.operator.proofs.print.last.Tie as tie
 
@@ -8,7 +8,7 @@ returns : tie.Need-returns
 returns c =
     let line = c .before .before in
     let call = line .before .before .before .before .call-bytes .ensures in
-    last-printed _ call _ _ (line .last-line .ensures)
+    line-printed _ call _ _ _ (line .last-line .ensures)
 
 pub last-spec : {M : Type 1} → statement M
 last-spec =

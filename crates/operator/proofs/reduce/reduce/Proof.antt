@@ -100,19 +100,20 @@ module _ (d : tie.After-found2) where
 
 may-print : tie.Need-part-requires
 may-print c κs =
-    let d = c .before .before .before .before .before .before .before .before in
+    let d = c .before .before .before .before .before .before .before .before .before in
     let held = reduced d .reduce .ensures .held in
     (held, rw (← kept-length held) (has-call _ _ (finds-it d) (small d)))
 
 part : tie.Need-returns-4
 part c =
     let lines = c .before .before in
-    let shown = lines .before .before .before .before .before in
+    let shown = lines .before .before .before .before .before .before in
     let d = shown .before .before .before .before in
     let q = reduced d in
     let plan = passes (rest (list q)) in
     answers-part _ (plan .checks) (plan .plan) _ (list-read (list q)) (whole-list q)
-    (finds-it d) (small d) (shown .before .own .ensures) (shown .plan-line .ensures) (lines .part2 .ensures)
+    (finds-it d) (small d) (q .reduce .ensures .rooms) (shown .before .own .ensures) (shown .plan-line .ensures)
+    (lines .part2 .ensures)
 
 pub reduce-spec : {M : Type 1} → statement M
 reduce-spec =

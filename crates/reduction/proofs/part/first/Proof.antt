@@ -4,7 +4,7 @@ use Prim.Native.Nat.{_-_, _<_}
 use mathlib.Core.Path.{sym}
 use lib.ListN.{length}
 use Rattle.reduction.proofs.Parts.{numbers, numbers-length, numbers-at}
-use Rattle.reduction.proofs.Parts.{Filled, none-filled, one-filled, all-filled}
+use Rattle.reduction.proofs.Parts.{Filled, none-filled, one-filled, part-filled}
 use Rattle.reduction.proofs.part.first.Statement.{statement}
 use Rattle.reduction.proofs.part.first.Tie as tie
 
@@ -27,7 +27,7 @@ loop-again c =
 returns : tie.Need-returns Inv-loop μ-loop
 returns c =
     let n = c .before .before .args .n in
-    all-filled (c .before .loop .inv) (rw (numbers-length n) (c .loop-test .left))
+    part-filled (c .before .loop .inv) (rw (numbers-length n) (c .loop-test .left))
     (rw (numbers-length n) (c .before .before .pre)) (sym (numbers-length n))
 
 pub first-spec : {M : Type 1} → statement M

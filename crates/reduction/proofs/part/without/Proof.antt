@@ -6,7 +6,7 @@ use mathlib.Core.List.{List}
 use lib.ListN.{length, getD}
 use Rattle.reduction.specs.Parts.{kept, Held, withoutBlock}
 use Rattle.reduction.proofs.Parts.{kept-length, kept-at, past-within}
-use Rattle.reduction.proofs.Parts.{Filled, none-filled, one-filled, all-filled, without-length, without-at}
+use Rattle.reduction.proofs.Parts.{Filled, none-filled, one-filled, part-filled, without-length, without-at}
 use Rattle.reduction.proofs.part.without.Statement.{statement}
 use Rattle.reduction.proofs.part.without.Tie as tie
 
@@ -59,7 +59,7 @@ loop-again c =
 returns : tie.Need-returns Inv-loop μ-loop
 returns c =
     let s = c .before .before in
-    all-filled (c .before .loop .inv) (rw (rest-length s) (c .loop-test .left))
+    part-filled (c .before .loop .inv) (rw (rest-length s) (c .loop-test .left))
     (rw (rest-length s) (omega (arith, held s .within))) (sym (rest-length s))
 
 pub without-spec : {M : Type 1} → statement M

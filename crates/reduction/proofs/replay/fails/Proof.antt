@@ -16,8 +16,8 @@ use Rattle.reduction.proofs.replay.fails.Statement.{statement}
 use Rattle.reduction.proofs.replay.fails.Tie as tie
 
 through : tie.Need-returns
-unfolding endsWith
-through c = rw (sym (c .before .before .replay .ensures) ∙ ap endOf (c .enum-told .given .1))
+unfolding endsWith firstFailure
+through c = rw (sym (c .before .before .replay .ensures .end) ∙ ap endOf (c .enum-told .given .1))
 
 -- where a call was refused
 module _ (c : tie.After-known-told) where
@@ -25,10 +25,11 @@ module _ (c : tie.After-known-told) where
   start = c .before .before .before .before
 
   abbrev failure : Failure
-  failure = record { place = c .before .i .given .0 .0; number = refusalNumber (c .before .i .given .0 .1 .0) }
+  failure = record { place = c .before .end .given .0 .0; number = refusalNumber (c .before .end .given .0 .1 .0) }
 
   found : firstFailure (start .args .topology) (calls (start .args .list) (start .args .part)) ≡ some failure
-  found = sym (c .before .before .before .replay .ensures) ∙ ap endOf (c .before .i .given .1)
+  unfolding firstFailure
+  found = sym (c .before .before .before .replay .ensures .end) ∙ ap endOf (c .before .end .given .1)
 
   place : failure .place < start .args .part .count
   place =

@@ -1,29 +1,29 @@
 -- `replay::run` meets its contract. The loop's invariant: the calls before the i-th were accepted and led here.
 use borrow.Author.Needs.{needs}
 use native.Mathlib.Omega.{arith}
-use Prim.Native.Nat.{_-_, _<_}
+use Prim.Native.Nat.{_-_, _<_, _≤_}
 use mathlib.Core.Logic.{⊎-elim}
-use mathlib.Core.Path.{_≡_, refl, sym, ap, _∙_}
+use mathlib.Core.Path.{_≡_, refl, ap, _∙_}
 use mir.Syntax.{w8}
 use mir.Val.{Fits}
-use lib.ListN.{length, getD, length-map}
+use lib.ListN.{length, getD, replicate, length-map}
 use Rattle.model.specs.declared.Record.the-variants.{Recover}
-use Rattle.model.specs.CallList.{callAt}
+use Rattle.model.specs.CallList.{callAt, listLimit}
 use Rattle.model.specs.Outcome.{refusalOf, startRefusal}
-use Rattle.reduction.specs.Replays.{failureFrom, calls}
-use Rattle.reduction.proofs.Parts.{kept-length, call-at}
+use Rattle.reduction.specs.Replays.{repliesFrom, calls}
+use Rattle.reduction.proofs.Parts.{kept-length, call-at, held-calls}
 use Rattle.reduction.proofs.Turning.{step-turns, recover-turns, recover-refused}
 use Rattle.reduction.proofs.Replaying.{Replaying, replay-starts, replay-ends, replay-fails, replay-goes-on}
 use Rattle.reduction.proofs.replay.run.Statement.{statement}
 use Rattle.reduction.proofs.replay.run.Tie as tie
 
 abbrev Inv-loop : tie.InvT-loop
-Inv-loop topology store₀ list part state₀ i₀ store state i =
-    Replaying topology (calls list part) (failureFrom topology state₀ store₀ (calls list part)) state store i
+Inv-loop topology store₀ list part state₀ rooms₀ i₀ store state rooms i =
+    Replaying topology (calls list part) (repliesFrom topology state₀ store₀ (calls list part)) state store rooms i
     × (length store ≡ length store₀)
 
 abbrev μ-loop : tie.MeasureT-loop
-μ-loop topology store₀ list part state₀ i₀ store state i = part .count - i
+μ-loop topology store₀ list part state₀ rooms₀ i₀ store state rooms i = part .count - i
 
 -- a call was found
 module _ (c : tie.After-listed2 Inv-loop μ-loop) where
@@ -34,11 +34,15 @@ module _ (c : tie.After-listed2 Inv-loop μ-loop) where
   start = at-loop .before .before
 
   abbrev inv : Inv-loop (start .args .topology) (start .args .store .now) (start .args .t2) (start .args .t3)
-      (start .args .first) 0 (at-loop .loop .store) (at-loop .loop .state) (at-loop .loop .i)
+      (start .args .first) (replicate listLimit 0) 0
+      (at-loop .loop .store) (at-loop .loop .state) (at-loop .loop .rooms) (at-loop .loop .i)
   inv = at-loop .loop .inv
 
   inside : at-loop .loop .i < length (calls (start .args .t2) (start .args .t3))
   inside = simp length-map (rw (kept-length (start .pre)) (c .before .before .loop-test .taken))
+
+  few : length (calls (start .args .t2) (start .args .t3)) ≤ listLimit
+  few = held-calls (start .pre) (start .args .t2)
 
   here : getD (calls (start .args .t2) (start .args .t3)) (at-loop .loop .i) Recover
       ≡ callAt (start .args .t2) (getD (start .args .t3 .places) (at-loop .loop .i) 0)
@@ -64,8 +68,9 @@ refused c =
     let answered = judged .before .before .before in
     let content = answered .before .before .before in
     let found = content .before .before in
-    sym (replay-fails (inv found .0) (inside found) (here found ∙ content .content .given .1)
-    (step-turns _ _ _ _ (answered .step .ensures) (judged .verdict .ensures)) _ (ap refusalOf (told .r .given .1)))
+    replay-fails (inv found .0) (inside found) (here found ∙ content .content .given .1)
+    (step-turns _ _ _ _ (answered .step .ensures) (judged .verdict .ensures) refl) (few found) _
+    (ap refusalOf (told .r .given .1))
 
 kept : tie.Need-same-length Inv-loop μ-loop
 kept c =
@@ -78,8 +83,8 @@ recover-refused-too c =
     let recovered = told .before .before in
     let content = recovered .before .before in
     let found = content .before .before in
-    sym (replay-fails (inv found .0) (inside found) (here found ∙ content .enum-told2 .given .1)
-    (recover-refused _ _ _ (recovered .recover .ensures) (ap startRefusal (told .start .given .1))) _ refl)
+    replay-fails (inv found .0) (inside found) (here found ∙ content .enum-told2 .given .1)
+    (recover-refused _ _ _ (recovered .recover .ensures) (ap startRefusal (told .start .given .1))) (few found) _ refl
 
 -- a step is accepted, or a recover
 loop-again : tie.Need-loop-again Inv-loop μ-loop
@@ -87,14 +92,15 @@ unfolding refusalOf
 loop-again c =
     let found = c .before in
     ⊎-elim
-    (λ w. rw (w .11, w .12) (
+    (λ w. rw (w .12, w .13, w .14) (
       replay-goes-on (inv found .0) (inside found) (here found ∙ w .1 .given .1)
-          (step-turns _ _ _ _ (w .4 .ensures) (w .7 .ensures)) (ap refusalOf (w .9 .given .1)),
+          (step-turns _ _ _ _ (w .4 .ensures) (w .7 .ensures) (w .10 .ensures)) (few found)
+          (ap refusalOf (w .9 .given .1)),
       w .4 .kept .1 .1 .0 ∙ inv found .1,
     ))
-    (λ w. rw (w .7, w .8) (
+    (λ w. rw (w .7, w .8, w .9) (
       replay-goes-on (inv found .0) (inside found) (here found ∙ w .1 .given .1)
-          (recover-turns _ _ _ (w .3 .ensures) (ap startRefusal (w .5 .given .1))) refl,
+          (recover-turns _ _ _ (w .3 .ensures) (ap startRefusal (w .5 .given .1))) (few found) refl,
       inv found .1,
     ))
     (c .match .came)
@@ -102,7 +108,8 @@ loop-again c =
 ends : tie.Need-returns-3 Inv-loop μ-loop
 ends c =
     let s = c .before .before .before in
-    sym (replay-ends (c .before .loop .inv .0) (simp length-map (rw (kept-length (s .pre)) (c .loop-test .left))))
+    replay-ends (c .before .loop .inv .0) (held-calls (s .pre) (s .args .t2))
+    (simp length-map (rw (kept-length (s .pre)) (c .loop-test .left)))
 
 pub run-spec : {M : Type 1} → statement M
 run-spec =
@@ -110,6 +117,7 @@ run-spec =
     (tie.spec Inv-loop μ-loop starts (λ c. omega arith) (λ c. omega (arith, c .before .before .before .pre .within))
     (λ c. omega (arith, place c)) (λ c. omega (arith, place c)) (λ c. place c) (λ c. search needs)
     (λ c κs. search needs) (λ c κs. search needs) (λ c. search needs) kept refused (λ c. search needs)
-    (λ c. search needs) (λ c κs. search needs) (λ c. search needs)
+    (λ c κs. search needs) (λ c. search needs) (λ c κs. search needs) (λ c. search needs)
     (λ c. inv (c .before .before .before .before .before .before .before) .1) recover-refused-too (λ c. search needs)
-    (λ c. omega arith) (λ c. omega arith) loop-again (λ c. c .before .loop .inv .1) ends)
+    (λ c. omega arith) (λ c. omega (arith, start (c .before) .pre .within)) (λ c. omega arith) (λ c. omega arith)
+    loop-again (λ c. c .before .loop .inv .1) ends)
