@@ -1,4 +1,4 @@
--- What a send says of room is what the next one on its channel finds (NextSend of specs/NextSend.antt).
+-- What a send says of room is what one on its channel right after it finds (NextSend of specs/NextSend.antt).
 use Prim.Native.Nat.{ℕ, _+_, _-_, _≤_, _<_}
 use mathlib.Core.Path.{_≡_, sym, ap, _∙_}
 use mathlib.Core.Bool.{true, false, cond}

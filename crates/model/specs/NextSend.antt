@@ -1,5 +1,5 @@
--- Document 02, M-104, "Senders want to slow down in time": what a send says of room is what the next one on its channel
--- finds. The theorem is proofs/SlowDown.antt.
+-- Document 02, M-104, "Senders want to slow down in time": what a send says of room is what one on its channel right
+-- after it finds. The theorem is proofs/SlowDown.antt.
 use Prim.Native.Nat.{ℕ, _-_}
 use mathlib.Core.Path.{_≡_}
 use mathlib.Core.Bool.{cond}
@@ -11,8 +11,8 @@ use Rattle.model.specs.State.{GlobalState}
 use Rattle.model.specs.Write.{Answered}
 use Rattle.model.specs.Step.{answer}
 
--- A send on channel c that says n leaves room for n more: another one after it says one less, and where n is 0 it is
--- refused with 9. For any state, bodies, budgets and store.
+-- A send on channel c that says n leaves room for n more: another one right after it says one less, and where n is 0 it
+-- is refused with 9. For any state, bodies, budgets and store.
 abbrev pub NextSend : Type 0
 NextSend =
     (s : GlobalState) (store : List ℕ) (c b d n budget later : ℕ)
