@@ -10,4 +10,4 @@ pub mod Clearing
 pub mod Receptions
 pub mod Attempting
 pub mod ReceiveMeets
-pub mod CodeRuns
+pub mod Runs

@@ -1,4 +1,4 @@
--- Demand 3 (its statement is Demand3 of specs/Claim.antt): after an accepted initialize and any list of calls, a
+-- Demand 3 (its statement is Demand3 of specs/Demand3.antt): after an accepted initialize and any list of calls, a
 -- recover is accepted and gives the state at the last recovery line. The invariant holds of every world that such a
 -- list reaches (`end-holds`); the companion in Reached.antt rests on it too.
 use Prim.Native.Nat.{ℕ}
@@ -16,7 +16,7 @@ use Rattle.model.specs.History.{onRecover}
 use Rattle.model.specs.Run.{Call, call, recovery, World, next, run, firstWorld, replyTo, onReply, onCall}
 use Rattle.model.specs.Run.{stateAfter}
 use Rattle.model.specs.Run.{storeAfter, commitsAfter, countCommit}
-use Rattle.model.specs.Claim.{Recovered, RecoveredAfter, Demand3}
+use Rattle.model.specs.Demand3.{Recovered, RecoveredAfter, Demand3}
 use Rattle.model.proofs.laws.Effects.{answer-follows}
 use Rattle.model.proofs.line.Invariant.{Inv}
 use Rattle.model.proofs.line.StepKept.{step-kept}

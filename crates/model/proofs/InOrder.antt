@@ -1,5 +1,5 @@
--- The order of refusals: a step's checks come in document 01's order; of setup and restart, what comes earlier in "1 to
--- 6, then 16" decides.
+-- Checks come in document 01's order (the statement is InOrder of specs/InOrder.antt): a step's by computation, and of
+-- setup and restart what comes earlier decides.
 use Prim.Native.Nat.{ℕ}
 use mathlib.Core.Path.{_≡_, refl}
 use mathlib.Core.Bool.{true}
@@ -15,11 +15,10 @@ use Rattle.model.specs.Topology.{sizeChecks, channelChecks, sizeRefusal,
 use Rattle.model.specs.State.{GlobalState}
 use Rattle.model.specs.Step.{priorChecks, roomChecks, logChecks, ownChecks, stepChecks}
 use Rattle.model.specs.Start.{initializeRefusal, recoverRefusal}
-use Rattle.model.specs.Order.{documentOrder, inOrder, checkNumbers}
+use Rattle.model.specs.InOrder.{documentOrder, inOrder, checkNumbers, InOrder}
 use Rattle.model.specs.Recover as recovery
 
--- "Order for steps: 15, 6, 8, 12, 13, 10, 14, 9, 11."
-pub steps-in-order : (s : GlobalState) (cells : ℕ) (x : Step)
+steps-in-order : (s : GlobalState) (cells : ℕ) (x : Step)
     → inOrder (checkNumbers (stepChecks s cells x)) documentOrder ≡ true
 unfolding inOrder checkNumbers documentOrder stepChecks ownChecks priorChecks roomChecks logChecks
 steps-in-order s cells (Send c b) = refl
@@ -31,29 +30,36 @@ steps-in-order s cells (SendMarker c) = refl
 steps-in-order s cells Commit = refl
 steps-in-order s cells Abort = refl
 
--- "Setup and restart: 1 to 6, then 16." 1 before 2, and 3 before 4 before 5 on each channel;
-pub sizes-in-order : (n m : ℕ) → checkNumbers (sizeChecks n m) ≡ 1 ∷ 2 ∷ []
+sizes-in-order : (n m : ℕ) → checkNumbers (sizeChecks n m) ≡ 1 ∷ 2 ∷ []
 unfolding checkNumbers
 sizes-in-order n m = refl
 
-pub channel-in-order : (T : Topology) (c : ℕ) → checkNumbers (channelChecks T c) ≡ 3 ∷ 4 ∷ 5 ∷ []
+channel-in-order : (T : Topology) (c : ℕ) → checkNumbers (channelChecks T c) ≡ 3 ∷ 4 ∷ 5 ∷ []
 unfolding checkNumbers
 channel-in-order T c = refl
 
--- 1 and 2 come before 3 to 5,
-pub sizes-first : (T : Topology) (r : ℕ) → sizeRefusal (T .processes) (T .channels) ≡ some r
+sizes-first : (T : Topology) (r : ℕ) → sizeRefusal (T .processes) (T .channels) ≡ some r
     → topologyRefusal T ≡ some r
 unfolding topologyRefusal orElse
 sizes-first T r e = rw e refl
 
--- 1 to 5 before 6,
-pub topology-first : (T : Topology) (cells : ℕ) (r : ℕ) → topologyRefusal T ≡ some r
+topology-first : (T : Topology) (cells : ℕ) (r : ℕ) → topologyRefusal T ≡ some r
     → initializeRefusal T cells ≡ some r
 unfolding recovery.initializeRefusal orElse
 topology-first T cells r e = rw e refl
 
--- and 1 to 6 before 16
-pub initialize-first : (T : Topology) (store : List ℕ) (r : ℕ) → initializeRefusal T (length store) ≡ some r
+initialize-first : (T : Topology) (store : List ℕ) (r : ℕ) → initializeRefusal T (length store) ≡ some r
     → recoverRefusal T store ≡ some r
 unfolding recovery.recoverRefusal orElse
 initialize-first T store r e = rw e refl
+
+pub in-order : InOrder
+in-order =
+    record {
+      steps = steps-in-order;
+      sizes = sizes-in-order;
+      channels = channel-in-order;
+      sizesFirst = sizes-first;
+      topologyFirst = topology-first;
+      initializeFirst = initialize-first;
+    }

@@ -7,7 +7,7 @@ use borrow.Author.Tests.{ltb-true, ltb-false}
 use native.Mathlib.Omega.{arith}
 use Rattle.model.specs.Word.{receipt, replay, replayBy}
 use Rattle.model.specs.Topology.{channelLimit}
-use Rattle.model.specs.SpokeFirst.{OrderShows}
+use Rattle.model.specs.OrderShows.{OrderShows}
 use Rattle.model.proofs.laws.Tests.{Tested, holds, fails, test}
 use Rattle.model.proofs.laws.WordLaws.{modulus, product-mod}
 

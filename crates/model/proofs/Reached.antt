@@ -1,4 +1,4 @@
--- The companion of demand 3 (its statement is Demand3Companion of specs/Claim.antt): a world that a list of calls
+-- The companion of demand 3 (its statement is Demand3Companion of specs/Reached.antt): a world that a list of calls
 -- reaches has a sound state, a step there is refused with 8 to 13 alone, and a recover not at all.
 use Prim.Native.Nat.{ℕ, _<_, _≤_}
 use mathlib.Core.Path.{_≡_, refl, sym, ap, subst}
@@ -30,7 +30,7 @@ use Rattle.model.specs.Step.{stepChecks, quietly, resultOf, step, answer
 use Rattle.model.specs.Start.{recover, stateOr}
 use Rattle.model.specs.History.{History}
 use Rattle.model.specs.Run.{Call, call, recovery, World, next, run, firstWorld, stateAfter}
-use Rattle.model.specs.Claim.{Demand3Companion}
+use Rattle.model.specs.Reached.{Demand3Companion}
 use Rattle.model.proofs.laws.Tests.{and-left, and-right, true-is-not-false, Tested, holds, fails, test, either}
 use Rattle.model.proofs.laws.Passing.{below}
 use Rattle.model.proofs.laws.Calls.{Powered, lost, lasts, power-cases}

@@ -1,5 +1,5 @@
--- The records' round trip: what the writer writes reads back as the same record, and bytes that read are the bytes that
--- the writer gives. Both are shown of any fields first, and then of the table of kinds.
+-- The records' round trip (the statement is RoundTrip of specs/RoundTrip.antt). Both ways are shown of any fields first,
+-- and then of the table of kinds.
 use Prim.Native.Nat.{ℕ, suc, _<_}
 use mathlib.Core.Path.{_≡_, refl, sym, subst, _∙_}
 use mathlib.Core.Bool.{Bool, true, cond, _&&_}
@@ -14,6 +14,7 @@ use Rattle.model.specs.declared.Step.the-variants.{SendMarker, Commit, A
 use Rattle.model.specs.Record.{Fields, absent, fieldsOf, provided, recordOf, mapOf, bodyBytes, fieldBytes}
 use Rattle.model.specs.Record.{writeFields, writeRecord, AreBytes, readByte, readBody, readField, stands, goodMap}
 use Rattle.model.specs.Record.{fieldsAfter, readFields, withRest, readRecord}
+use Rattle.model.specs.RoundTrip.{RoundTrip}
 use Rattle.model.proofs.laws.Tests.{test, Tested, holds, fails, and-left, and-right}
 use Rattle.model.proofs.laws.RecordLaws.{same, then, both, Maps, body-reads, body-written, byte-written, is-zero}
 use Rattle.model.proofs.laws.RecordLaws.{field-reads, field-written, rest-bytes, map-reads, map-written}
@@ -175,3 +176,6 @@ read-is-written bytes r rest h e =
     let (f, after, read, made) = both _ _ (r, rest) e in
     let (kind, left) = with-rest (recordOf f) after r rest made in
     cc (fields-written bytes f after h read, table-written f r kind, left)
+
+pub round-trip : RoundTrip
+round-trip = record { written = written-reads-back; read = read-is-written }

@@ -1,4 +1,4 @@
--- What an answer says tells the answer (ToldApart of specs/Order.antt): each number leads back to its refusal, and what
+-- What an answer says tells the answer (ToldApart of specs/ToldApart.antt): each number leads back to its refusal, and what
 -- is said to its outcome.
 use Prim.Native.Nat.{ℕ, _-_}
 use mathlib.Core.Path.{_≡_, refl, sym, ap, _∙_}
@@ -12,7 +12,7 @@ use Rattle.model.specs.declared.Refusal.the-variants.{DoubledChannel, Sh
 use Rattle.model.specs.declared.Refusal.the-variants.{ChannelEmpty, LogFull, NotNow, LastLine, MarkerOnClosed}
 use Rattle.model.specs.declared.Refusal.the-variants.{Unsound, BadCount, NothingRefused, LongList}
 use Rattle.model.specs.Outcome.{Said, done, sent, took, note, line, refused, cut, refusalNumber, saidBy}
-use Rattle.model.specs.Order.{ToldApart}
+use Rattle.model.specs.ToldApart.{ToldApart}
 
 -- the refusals in the order of their numbers, from 1 on
 abbrev inNumberOrder : List Refusal

@@ -1,5 +1,5 @@
 -- Document 02, M-104, "Senders want to slow down in time": what a send says of room is what one on its channel right
--- after it finds. The theorem is proofs/SlowDown.antt.
+-- after it finds. The theorem is proofs/NextSend.antt.
 use Prim.Native.Nat.{ℕ, _-_}
 use mathlib.Core.Path.{_≡_}
 use mathlib.Core.Bool.{cond}

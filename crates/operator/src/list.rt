@@ -3,7 +3,7 @@ use model::CallList;
 use model::LISTED;
 use model::Listed;
 use model::Record;
-use record::Reading;
+use record::RecordRead;
 ghost use Prim.Native.Nat.{_≤_, _<_};
 ghost use lib.ListN.{length};
 ghost use Rattle.model.specs.Program.{inputBytes};
@@ -42,7 +42,7 @@ pub fn read(bytes: &[u8]) -> ListRead
     };
     let mut left = bytes;
     while 0 < left.len() {
-        let Reading::Read(content) = record::read(left) else {
+        let RecordRead::Read(content) = record::read(left) else {
             return ListRead { list, broken: true };
         };
         let after = record::rest(left);

@@ -3,7 +3,7 @@ use crate::list;
 use crate::print;
 use model::Refusal;
 use model::Verdict;
-use reduction::Found;
+use reduction::Finding;
 ghost use Prim.Native.Nat.{_≤_};
 ghost use lib.ListN.{length};
 ghost use Rattle.model.specs.Program.{inputBytes};
@@ -29,8 +29,8 @@ pub fn reduce(bytes: &[u8], out: &mut [u8]) -> usize
     let reduced = reduction::reduce(topology, list);
     let found = reduced.found;
     match found {
-        Found::Refused(r) => report::refused_line(out, 0, r),
-        Found::Failure(_, r) => {
+        Finding::Refused(r) => report::refused_line(out, 0, r),
+        Finding::Failure(_, r) => {
             let at = report::plan_line(out, 0, plan::own(bytes));
             let part = reduced.part;
             let rooms = reduced.rooms;

@@ -1,2 +1,2 @@
 -- What the reader of a plan promises, in terms of model's specs/Program.antt.
-pub mod Reading
+pub mod PlanRead

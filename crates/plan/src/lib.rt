@@ -12,7 +12,7 @@ ghost use Rattle.model.specs.Notation.{tabulate};
 ghost use Rattle.model.specs.Outcome.{refusalNumber, refusalOf};
 ghost use Rattle.model.specs.Topology.{channelLimit};
 ghost use Rattle.model.specs.Program.{inputBytes, endByte, planOf, planLength, shapeRefusal};
-ghost use Rattle.plan.specs.Reading.{saysOf, refusedPlan, planSays};
+ghost use Rattle.plan.specs.PlanRead.{planSaid, refusedPlan, planIn};
 
 const INPUT_BYTES: usize = 65536;
 
@@ -21,7 +21,7 @@ const SIZES: usize = 2;
 
 // What bytes begin with: whether their plan passes its checks, and the plan; where it is refused, the blank one. (An
 // enum can't hold the arrays of a topology.)
-pub struct Reading {
+pub struct PlanRead {
     pub verdict: Verdict,
     pub topology: Topology,
 }
@@ -94,8 +94,8 @@ fn topology(bytes: &[u8]) -> Topology
 }
 
 // A refusal, with the blank plan: no process, no channel.
-fn refused(refusal: Refusal) -> Reading
-    ensures { λ r. ⌜ saysOf r ≡ refusedPlan (refusalNumber refusal) ⌝ }
+fn refused(refusal: Refusal) -> PlanRead
+    ensures { λ r. ⌜ planSaid r ≡ refusedPlan (refusalNumber refusal) ⌝ }
 {
     let topology = Topology {
         processes: 0,
@@ -103,15 +103,15 @@ fn refused(refusal: Refusal) -> Reading
         from: [0; CHANNELS],
         to: [0; CHANNELS],
     };
-    Reading {
+    PlanRead {
         verdict: Verdict::Refuse(refusal),
         topology,
     }
 }
 
 // The plan that the bytes begin with, or the refusal of its first check that fails.
-pub fn read(bytes: &[u8]) -> Reading
-    ensures { λ r. ⌜ saysOf r ≡ planSays (now (bytes .entry)) ⌝ }
+pub fn read(bytes: &[u8]) -> PlanRead
+    ensures { λ r. ⌜ planSaid r ≡ planIn (now (bytes .entry)) ⌝ }
 {
     if let Verdict::Refuse(r) = check(bytes) {
         return refused(r);
@@ -119,7 +119,7 @@ pub fn read(bytes: &[u8]) -> Reading
     let topology = topology(bytes);
     match rules::topology::check(topology) {
         Verdict::Refuse(r) => refused(r),
-        Verdict::Pass => Reading {
+        Verdict::Pass => PlanRead {
             verdict: Verdict::Pass,
             topology,
         },

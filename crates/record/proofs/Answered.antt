@@ -5,7 +5,7 @@ use mathlib.Core.List.{List}
 use mathlib.Core.Option.{none, some}
 use Rattle.model.specs.declared.Record.{Record}
 use Rattle.model.specs.Record.{Reading}
-use Rattle.record.specs.Reading.{gives, refuses, answered, remaining}
+use Rattle.record.specs.RecordRead.{gives, refuses, answered, remaining}
 
 -- nothing was read
 pub no-record : (x : Reading Record) {n : ℕ} → answered x ≡ refuses n → x ≡ none

@@ -11,7 +11,7 @@ use native.Mathlib.Nat.{eq-or-lt-of-le}
 use Rattle.model.specs.declared.Record.{Record}
 use Rattle.model.specs.Record.{Fields, absent, provided, recordOf, withRest}
 use Rattle.model.proofs.laws.Tests.{true-is-not-false, Tested, holds, fails, test}
-use Rattle.record.specs.Reading.{gives, refuses, answered}
+use Rattle.record.specs.RecordRead.{gives, refuses, answered}
 use Rattle.record.specs.Kind.{isRecord, decided}
 
 row-there : (t : Bool) (r : Record) → isRecord (provided t r) ≡ t

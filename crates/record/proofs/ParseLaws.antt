@@ -16,9 +16,9 @@ use Rattle.record.specs.declared.field.Field.{Field}
 use Rattle.record.specs.declared.field.Field.the-variants.{Value, Broken}
 use Rattle.record.specs.Field.{readingIn, Fit, Within, Reads}
 use Rattle.record.specs.declared.parse.Parsed.{Parsed}
-use Rattle.record.specs.declared.Reading.{Reading}
-use Rattle.record.specs.declared.Reading.the-variants.{Read, Refused}
-use Rattle.record.specs.Reading.{saysOf, answered, remaining}
+use Rattle.record.specs.declared.RecordRead.{RecordRead}
+use Rattle.record.specs.declared.RecordRead.the-variants.{Read, Refused}
+use Rattle.record.specs.RecordRead.{recordSaid, answered, remaining}
 use Rattle.record.specs.Parse.{Parses, unread, wholeOf}
 use Rattle.record.specs.Kind.{fields, decided}
 
@@ -29,7 +29,7 @@ unfolding answered remaining
 unread-parses e q = record { answer = rw (e, q); rest = rw (e, q); within = rw q (omega arith) }
 
 -- the end of a reading
-pub whole-parses : {bytes : List ℕ} (x : Reading) (o : Option Record) (next : ℕ) → saysOf x ≡ decided o
+pub whole-parses : {bytes : List ℕ} (x : RecordRead) (o : Option Record) (next : ℕ) → recordSaid x ≡ decided o
     → next ≤ length bytes → Parses (withRest o (drop next bytes)) bytes (wholeOf x next)
 unfolding answered remaining withRest wholeOf
 whole-parses (Read r) none next e h = unread-parses refl (cc)

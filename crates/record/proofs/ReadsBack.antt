@@ -12,7 +12,7 @@ use Rattle.model.specs.Record as model
 use Rattle.model.specs.Record.{AreBytes, fieldsOf, readRecord, writeFields, writeRecord}
 use Rattle.model.proofs.RoundTrip.{written-reads-back, read-is-written}
 use Rattle.record.specs.declared.Written.{Written}
-use Rattle.record.specs.Reading.{gives, answered, remaining}
+use Rattle.record.specs.RecordRead.{gives, answered, remaining}
 use Rattle.record.specs.Written.{holding, bytesOf, written}
 
 counted : (r : Record) → bytesOf (written r) ≡ writeRecord r

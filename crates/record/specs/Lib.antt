@@ -1,6 +1,6 @@
--- What the reader and the writer promise, in terms of model's specs/Record.antt: Reading and Written are the public
+-- What the reader and the writer promise, in terms of model's specs/Record.antt: RecordRead and Written are the public
 -- promises, the others those of the functions behind them.
-pub mod Reading
+pub mod RecordRead
 pub mod Written
 pub mod Field
 pub mod Kind

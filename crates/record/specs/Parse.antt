@@ -6,14 +6,14 @@ use lib.ListN.{length, getD, drop}
 use Rattle.model.specs.declared.Record.{Record}
 use Rattle.model.specs.declared.Refusal.the-variants.{Malformed}
 use Rattle.model.specs.Record as model
-use Rattle.record.specs.declared.Reading.{Reading}
-use Rattle.record.specs.declared.Reading.the-variants.{Read, Refused}
+use Rattle.record.specs.declared.RecordRead.{RecordRead}
+use Rattle.record.specs.declared.RecordRead.the-variants.{Read, Refused}
 use Rattle.record.specs.declared.parse.Parsed.{Parsed}
-use Rattle.record.specs.Reading.{saysOf, answered, remaining}
+use Rattle.record.specs.RecordRead.{recordSaid, answered, remaining}
 
 -- both parts of a reading that the bytes begin with
 pub record Parses (reading : model.Reading Record) (bytes : List ℕ) (p : Parsed) : Type 0 where
-  pub answer : saysOf (p .reading) ≡ answered reading
+  pub answer : recordSaid (p .reading) ≡ answered reading
   pub rest : drop (p .next) bytes ≡ remaining reading bytes
   pub within : p .next ≤ length bytes
 
@@ -30,6 +30,6 @@ abbrev pub unread : Parsed
 unread = record { reading = Refused Malformed; next = 0 }
 
 -- a record with its end; a refusal has none
-unfoldable pub wholeOf : Reading → ℕ → Parsed
+unfoldable pub wholeOf : RecordRead → ℕ → Parsed
 wholeOf (Read r) next = record { reading = Read r; next = next }
 wholeOf (Refused x) next = unread

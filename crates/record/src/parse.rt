@@ -1,5 +1,5 @@
 // One reading of the bytes: the record and where the bytes after it start.
-use crate::Reading;
+use crate::RecordRead;
 use crate::field;
 use crate::field::Field;
 use crate::kind;
@@ -12,7 +12,7 @@ ghost use Rattle.record.specs.Parse.{Parses, afterMap, unread, wholeOf};
 
 // What the bytes begin with, and where the bytes after it start: at 0 where it is refused.
 pub struct Parsed {
-    pub reading: Reading,
+    pub reading: RecordRead,
     pub next: usize,
 }
 
@@ -21,18 +21,18 @@ fn malformed() -> Parsed
     ensures { λ r. ⌜ r ≡ unread ⌝ }
 {
     Parsed {
-        reading: Reading::Refused(Refusal::Malformed),
+        reading: RecordRead::Refused(Refusal::Malformed),
         next: 0,
     }
 }
 
 // A record with its end; a refusal has none.
-fn whole(reading: Reading, next: usize) -> Parsed
+fn whole(reading: RecordRead, next: usize) -> Parsed
     ensures { λ r. ⌜ r ≡ wholeOf reading next ⌝ }
 {
     match reading {
-        Reading::Read(_) => Parsed { reading, next },
-        Reading::Refused(_) => malformed(),
+        RecordRead::Read(_) => Parsed { reading, next },
+        RecordRead::Refused(_) => malformed(),
     }
 }
 

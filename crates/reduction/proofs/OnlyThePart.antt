@@ -1,4 +1,5 @@
--- The promise of `reduce` leaves the part open where there is one, and nothing else (OpenInThePart of specs/Open.antt).
+-- The promise of `reduce` leaves the part open where there is one, and nothing else (the statement is OnlyThePart of
+-- specs/OnlyThePart.antt).
 use Prim.Native.Nat.{ℕ}
 use mathlib.Core.Path.{_≡_, sym, ap, _∙_}
 use mathlib.Core.List.{List}
@@ -8,16 +9,16 @@ use Rattle.model.specs.declared.Record.{Record}
 use Rattle.model.specs.CallList.{Failure}
 use Rattle.model.specs.Outcome.{refusalNumber}
 use Rattle.model.proofs.ToldApart.{told-apart}
-use Rattle.reduction.specs.declared.Found.{Found}
-use Rattle.reduction.specs.declared.Found.the-variants as found
+use Rattle.reduction.specs.declared.Finding.{Finding}
+use Rattle.reduction.specs.declared.Finding.the-variants as found
 use Rattle.reduction.specs.declared.Reduced.{Reduced}
 use Rattle.reduction.specs.declared.part.Part.{Part}
 use Rattle.reduction.specs.Parts.{kept, holding, Held}
 use Rattle.reduction.specs.Reduces.{soughtIn, Reduces}
-use Rattle.reduction.specs.Open.{OpenInThePart}
+use Rattle.reduction.specs.OnlyThePart.{OnlyThePart}
 
 -- what is said tells what was found, since a number tells its refusal
-found-fixed : (a b : Found) → soughtIn a ≡ soughtIn b → a ≡ b
+found-fixed : (a b : Finding) → soughtIn a ≡ soughtIn b → a ≡ b
 found-fixed (found.Failure p r) (found.Failure q s) e =
     let f : Failure = record { place = p; number = refusalNumber r } in
     let g : Failure = record { place = q; number = refusalNumber s } in
@@ -39,11 +40,11 @@ fixed T calls r s p q e =
     let a : r .found ≡ s .found = found-fixed (r .found) (s .found) (p .answer ∙ sym (q .answer)) in
     let b : r .part ≡ s .part = part-fixed (p .held) (q .held) e in
     let c : r .rooms ≡ s .rooms = p .rooms ∙ rw e (sym (q .rooms)) in
-    let from : Found → Part → List ℕ → Reduced = λ x y z. record { found = x; part = y; rooms = z } in
+    let from : Finding → Part → List ℕ → Reduced = λ x y z. record { found = x; part = y; rooms = z } in
     let all : from (r .found) (r .part) (r .rooms) ≡ from (s .found) (s .part) (s .rooms) = rw (a, b, c) in
     all
 
-pub only-the-part : OpenInThePart
+pub only-the-part : OnlyThePart
 only-the-part =
     record {
       places = fixed;

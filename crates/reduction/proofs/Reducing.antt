@@ -20,7 +20,7 @@ use Rattle.model.specs.CallList.{listed, listLimit, Failure, firstFailure, repl
 use Rattle.model.specs.Reduction.{refuses, finds, listRefusal, soughtBy, sought, Smallest}
 use Rattle.model.proofs.laws.Tests.{Tested, test, holds, fails}
 use Rattle.reduction.specs.declared.part.Part.{Part}
-use Rattle.reduction.specs.declared.Found.the-variants as found
+use Rattle.reduction.specs.declared.Finding.the-variants as found
 use Rattle.reduction.specs.declared.replay.Replayed.{Replayed}
 use Rattle.reduction.specs.Parts.{kept, padded, Held}
 use Rattle.reduction.specs.Replays.{Replays, calls}

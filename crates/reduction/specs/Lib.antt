@@ -3,4 +3,4 @@ pub mod Parts
 pub mod Replays
 pub mod Passes
 pub mod Reduces
-pub mod Open
+pub mod OnlyThePart

@@ -7,13 +7,13 @@ use Rattle.model.specs.declared.Refusal.{Refusal}
 use Rattle.model.specs.Outcome.{refusalNumber}
 use Rattle.model.specs.CallList.{rooms}
 use Rattle.model.specs.Reduction.{Sought, refuses, finds, callsAt, sought, PartFor}
-use Rattle.reduction.specs.declared.Found.{Found}
-use Rattle.reduction.specs.declared.Found.the-variants as found
+use Rattle.reduction.specs.declared.Finding.{Finding}
+use Rattle.reduction.specs.declared.Finding.the-variants as found
 use Rattle.reduction.specs.declared.Reduced.{Reduced}
 use Rattle.reduction.specs.Parts.{kept, padded, holding, Held}
 
 -- what each case of the code's answer says
-abbrev pub soughtIn : Found → Sought
+abbrev pub soughtIn : Finding → Sought
 soughtIn (found.Failure place r) = finds (record { place = place; number = refusalNumber r })
 soughtIn (found.Refused r) = refuses (refusalNumber r)
 

@@ -16,7 +16,7 @@ ghost use Rattle.model.specs.CallList.{listed};
 ghost use Rattle.reduction.specs.Reduces.{refusedBy, Reduces};
 
 // What is answered: the place of the list's first refused call, counted from 0, and its refusal; or why there is none.
-pub enum Found {
+pub enum Finding {
     Failure(u16, Refusal),
     Refused(Refusal),
 }
@@ -24,7 +24,7 @@ pub enum Found {
 // With it comes a smallest part that fails so; the empty part where there is none. And how much room each call of the
 // part said is left: 0 for one that is no send, for the last one, and in the places after.
 pub struct Reduced {
-    pub found: Found,
+    pub found: Finding,
     pub part: Part,
     pub rooms: [u8; LISTED],
 }
@@ -35,7 +35,7 @@ fn refused(refusal: Refusal) -> Reduced
 {
     let part = part::first(0);
     Reduced {
-        found: Found::Refused(refusal),
+        found: Finding::Refused(refusal),
         part,
         rooms: [0; LISTED],
     }
@@ -62,7 +62,7 @@ pub fn reduce(topology: Topology, list: CallList) -> Reduced
     let smallest = replay::replay(topology, list, part);
     let rooms = smallest.rooms;
     Reduced {
-        found: Found::Failure(place, refusal),
+        found: Finding::Failure(place, refusal),
         part,
         rooms,
     }

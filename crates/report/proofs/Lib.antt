@@ -5,4 +5,4 @@ pub mod Texts
 pub mod HexTexts
 pub mod Filling
 pub mod Changes
-pub mod ExamplesHold
+pub mod Examples

@@ -17,7 +17,7 @@ use Rattle.model.specs.Start.{initializeRefusal, initialize}
 use Rattle.model.specs.Program.{BudgetSource, given, inputBytes, planLength, planRefusal}
 use Rattle.model.specs.Program.{sessionFrom, sessionOf, playedOf, played}
 use Rattle.model.specs.Recover as recovery
-use Rattle.plan.proofs.Readings.{Passes}
+use Rattle.plan.proofs.PlanReads.{Passes}
 use Rattle.report.specs.Appends.{Appends}
 use Rattle.report.specs.TextBytes.{planRefusedBytes, processBytes, channelBytes, cellBytes}
 use Rattle.report.specs.Text.{planRefusedText, outputText}

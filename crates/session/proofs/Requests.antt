@@ -7,10 +7,10 @@ use Rattle.model.specs.declared.Record.{Record}
 use Rattle.model.specs.Record.{Reading}
 use Rattle.model.specs.Program.{BudgetSource, Request, readRequest}
 use Rattle.model.proofs.laws.RecordLaws.{both, same}
-use Rattle.record.specs.Reading.{remaining}
+use Rattle.record.specs.RecordRead.{remaining}
 use Rattle.session.specs.declared.request.Budget.the-variants as budget
-use Rattle.session.specs.declared.request.Request.the-variants as request
-use Rattle.session.specs.Request.{budgeted, requested, afterRequest}
+use Rattle.session.specs.declared.request.RequestRead.the-variants as request
+use Rattle.session.specs.RequestRead.{budgeted, requested, afterRequest}
 
 -- nothing was read
 pub no-budget : (x : Reading ℕ) → budgeted x ≡ budget.Malformed → x ≡ none

@@ -1,5 +1,5 @@
 -- What the programs `head` and `drill` print, whole, and what the functions behind them promise.
 pub mod Drill
 pub mod Output
-pub mod Request
+pub mod RequestRead
 pub mod Serving

@@ -9,7 +9,7 @@ ghost use lib.ListN.{length};
 ghost use Rattle.model.specs.Layout.{storeCells};
 ghost use Rattle.model.specs.Program.{played};
 ghost use Rattle.session.specs.Output.{MayRun, Plays, planPlayed};
-ghost use Rattle.session.specs.Request.{sourceOf};
+ghost use Rattle.session.specs.RequestRead.{sourceOf};
 
 // With a plan that passed its checks, and the bytes after it. Initialize isn't refused then (`starts` of
 // proofs/Opening.antt), so nothing looks whether it is.

@@ -1,9 +1,9 @@
 // A request: a record, and the write budget that it is called with.
 use model::Record;
-use record::Reading;
+use record::RecordRead;
 ghost use mathlib.Core.Path.{_≡_};
 ghost use Rattle.model.specs.Program.{readBudget, readRequest};
-ghost use Rattle.session.specs.Request.{sourceOf, budgeted, requested, afterBudget, afterRequest};
+ghost use Rattle.session.specs.RequestRead.{sourceOf, budgeted, requested, afterBudget, afterRequest};
 
 // Where a call's budget comes from: full current, or 4 bytes before each record.
 pub enum BudgetSource {
@@ -23,7 +23,7 @@ enum Budget {
 }
 
 // What bytes begin with: a request, or refusal 7.
-pub enum Request {
+pub enum RequestRead {
     Read(Record, u32),
     Malformed,
 }
@@ -55,17 +55,17 @@ fn record_bytes(source: BudgetSource, bytes: &[u8]) -> &[u8]
 }
 
 // The request that the bytes begin with.
-pub fn read(source: BudgetSource, bytes: &[u8]) -> Request
+pub fn read(source: BudgetSource, bytes: &[u8]) -> RequestRead
     ensures { λ r. ⌜ r ≡ requested (readRequest (sourceOf source) (now (bytes .entry))) ⌝ }
 {
     let Budget::Lasts(budget) = budget_of(source, bytes) else {
-        return Request::Malformed;
+        return RequestRead::Malformed;
     };
     let content = record_bytes(source, bytes);
-    let Reading::Read(record) = record::read(content) else {
-        return Request::Malformed;
+    let RecordRead::Read(record) = record::read(content) else {
+        return RequestRead::Malformed;
     };
-    Request::Read(record, budget)
+    RequestRead::Read(record, budget)
 }
 
 // The bytes after that request.

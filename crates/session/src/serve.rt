@@ -1,7 +1,7 @@
 // The requests of a session, each served and its line printed.
 use crate::request;
 use crate::request::BudgetSource;
-use crate::request::Request;
+use crate::request::RequestRead;
 use model::Outcome;
 use model::Record;
 use model::Refusal;
@@ -13,7 +13,7 @@ ghost use lib.ListN.{length};
 ghost use Rattle.model.specs.declared.Record.the-variants.{Recover};
 ghost use Rattle.model.specs.State.{view};
 ghost use Rattle.model.specs.Program.{inputBytes, sessionFrom};
-ghost use Rattle.session.specs.Request.{sourceOf};
+ghost use Rattle.session.specs.RequestRead.{sourceOf};
 ghost use Rattle.session.specs.Serving.{served, Serves, Prints};
 
 // What comes next: a line's number, where it goes, and the state that its request is served in.
@@ -105,7 +105,7 @@ pub fn requests(
     };
     let mut left = bytes;
     while 0 < left.len() {
-        let Request::Read(record, budget) = request::read(source, left) else {
+        let RequestRead::Read(record, budget) = request::read(source, left) else {
             let refused = Outcome::Refused(Refusal::Malformed);
             let at = report::outcome_line(out, turn.at, turn.number, refused, 0);
             turn.at = at;

@@ -6,7 +6,7 @@ fn read_all(sum: u32, bytes: &[u8]) -> u32 {
     let mut r = sum;
     let mut left = bytes;
     while 0 < left.len() {
-        let record::Reading::Read(found) = record::read(left) else {
+        let record::RecordRead::Read(found) = record::read(left) else {
             break;
         };
         r = fold(r, record_code(found));

@@ -10,7 +10,7 @@ use model::LISTED;
 use model::Listed;
 use model::Record;
 use model::Topology;
-use reduction::Found;
+use reduction::Finding;
 
 fn call(script: &[u8], turn: u32) -> Record {
     match byte(script, 0) {
@@ -40,10 +40,13 @@ fn list(script: &[u8], turn: u32) -> CallList {
 }
 
 // The place and the number of the first refusal, or the number alone.
-fn found_sum(sum: u32, found: Found) -> u32 {
+fn found_sum(sum: u32, found: Finding) -> u32 {
     match found {
-        Found::Failure(place, r) => fold(fold(sum, place as u32), rules::refusal::number(r) as u32),
-        Found::Refused(r) => fold(sum, rules::refusal::number(r) as u32),
+        Finding::Failure(place, r) => fold(
+            fold(sum, place as u32),
+            rules::refusal::number(r) as u32,
+        ),
+        Finding::Refused(r) => fold(sum, rules::refusal::number(r) as u32),
     }
 }
 

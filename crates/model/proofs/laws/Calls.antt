@@ -116,18 +116,18 @@ pub accepted-passes : (s : GlobalState) (x : Step) (store : List ℕ) (budget : 
 unfolding answer quietly accepted
 accepted-passes s x store budget ok = go (step-cases s (length store) x)
   where
-    Found : Type 0
-    Found = Accepted s (length store) x × (underBudget budget s store (step s (length store) x) ≡ answered s x store)
+    Performed : Type 0
+    Performed = Accepted s (length store) x × (underBudget budget s store (step s (length store) x) ≡ answered s x store)
 
     powered : Accepted s (length store) x → step s (length store) x ≡ effect s x → Powered budget s store (effect s x)
-        → Found
+        → Performed
     powered a e (lost l q) = true-is-not-false ok (rw (e, q))
     powered a e (lasts l q) = (a, rw e q)
 
-    go : Stepped s (length store) x → Found
+    go : Stepped s (length store) x → Performed
     go (stopped r e) = none (power-cases budget s store (quietly (refused r) s))
       where
-        none : Powered budget s store (quietly (refused r) s) → Found
+        none : Powered budget s store (quietly (refused r) s) → Performed
         none (lost l q) = true-is-not-false ok (rw (e, q))
         none (lasts l q) = true-is-not-false ok (rw (e, q))
     go (passes a e) = powered a e (power-cases budget s store (effect s x))

@@ -25,7 +25,7 @@ use Rattle.model.specs.Start.{countsFit, recover, recoverRefusal, recove
 use Rattle.model.specs.Start.{recoveredChannel}
 use Rattle.model.specs.History.{Event, History, newHistory, sent, received, bodiesOn, receiptsOf}
 use Rattle.model.specs.History.{onRecover}
-use Rattle.model.specs.Claim.{Recovered}
+use Rattle.model.specs.Demand3.{Recovered}
 use Rattle.model.specs.Form as form
 use Rattle.model.specs.Recover as recovery
 use Rattle.model.proofs.laws.Tests.{and-both}

@@ -8,7 +8,7 @@ use lib.ListN.{length, length-take, length-drop}
 use Rattle.model.specs.declared.Verdict.{Verdict}
 use Rattle.model.specs.Outcome.{refusalOf}
 use Rattle.model.specs.Program.{inputBytes}
-use Rattle.plan.proofs.Readings.{Passes, plan-refusal, plan-read}
+use Rattle.plan.proofs.PlanReads.{Passes, plan-refusal, plan-read}
 use Rattle.operator.specs.Carrying.{sourceForm, targetForm, carriedAnswer, carrying}
 use Rattle.operator.proofs.Carrying.{ends-plan, ends-broken, ends-carried}
 use Rattle.operator.proofs.carry.carry.Statement.{statement}

@@ -9,7 +9,7 @@ use mathlib.Core.Option.{some}
 use lib.ListN.{length}
 use Rattle.model.specs.Record.{readRecord}
 use Rattle.model.proofs.Readings.{After, fewer}
-use Rattle.record.specs.Reading.{saysOf}
+use Rattle.record.specs.RecordRead.{recordSaid}
 use Rattle.record.proofs.Answered.{no-record, a-record}
 use Rattle.operator.proofs.Listing.{after-call, Listing, list-starts, list-ends, list-breaks, list-goes-on}
 use Rattle.operator.proofs.list.read.Statement.{statement}
@@ -32,7 +32,7 @@ module _ (c : tie.After-rest Inv-loop μ-loop) where
   read : readRecord (at-loop .loop .left .now) ≡ some (c .before .before .content .given .0 .0, c .rest .result .now)
   read =
       let r = c .before .before in
-      a-record _ _ (sym (r .before .before .read .ensures) ∙ ap saysOf (r .content .given .1))
+      a-record _ _ (sym (r .before .before .read .ensures) ∙ ap recordSaid (r .content .given .1))
       ∙ ap (λ (rest : List ℕ). some (r .content .given .0 .0, rest)) (sym (c .rest .ensures))
 
   after : After (at-loop .loop .left .now) (c .rest .result .now)
@@ -42,7 +42,7 @@ breaks : tie.Need-returns Inv-loop μ-loop
 breaks c =
     let at = c .before .before .before in
     list-breaks (at .before .loop .inv) (at .loop-test .taken)
-    (no-record _ (sym (c .before .before .read .ensures) ∙ ap saysOf (c .enum-told .given .1)))
+    (no-record _ (sym (c .before .before .read .ensures) ∙ ap recordSaid (c .enum-told .given .1)))
 
 loop-again : tie.Need-loop-again Inv-loop μ-loop
 loop-again c = list-goes-on (at-loop (c .before) .loop .inv) _ _ (read (c .before)) (c .add .ensures)

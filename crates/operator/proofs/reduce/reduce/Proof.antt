@@ -10,7 +10,7 @@ use Rattle.model.specs.Outcome.{refusalNumber, refusalOf}
 use Rattle.model.specs.Program.{inputBytes}
 use Rattle.model.specs.CallList.{Failure, listed}
 use Rattle.model.specs.Reduction.{finds, sought, Smallest}
-use Rattle.plan.proofs.Readings.{Passes, plan-refusal, plan-read}
+use Rattle.plan.proofs.PlanReads.{Passes, plan-refusal, plan-read}
 use Rattle.reduction.specs.Parts.{kept}
 use Rattle.reduction.specs.Reduces.{soughtIn}
 use Rattle.reduction.proofs.Parts.{kept-length}

@@ -2,7 +2,7 @@
 use borrow.Author.Needs.{needs}
 use mathlib.Core.Path.{refl, sym, ap, _∙_}
 use Rattle.model.specs.Outcome.{refusalOf}
-use Rattle.plan.proofs.Readings.{Passes, plan-refusal, plan-read}
+use Rattle.plan.proofs.PlanReads.{Passes, plan-refusal, plan-read}
 use Rattle.session.proofs.Opening.{plays-refused, plays-read, few-records}
 use Rattle.session.proofs.play.play.Statement.{statement}
 use Rattle.session.proofs.play.play.Tie as tie

@@ -2,7 +2,7 @@
 use borrow.Author.Needs.{needs}
 use Rattle.model.specs.Program.{readBudget}
 use Rattle.model.proofs.laws.RecordLaws.{no-body, a-body}
-use Rattle.session.specs.Request.{budgeted}
+use Rattle.session.specs.RequestRead.{budgeted}
 use Rattle.session.proofs.request.budget_of.Statement.{statement}
 use Rattle.session.proofs.request.budget_of.Tie as tie
 

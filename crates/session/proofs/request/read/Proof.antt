@@ -4,8 +4,8 @@ use mathlib.Core.Path.{_≡_, sym, ap, _∙_}
 use mathlib.Core.Option.{some}
 use Rattle.model.specs.Record.{andThen, readRecord}
 use Rattle.model.specs.Program.{readBudget, readRequest}
-use Rattle.record.specs.Reading.{saysOf, answered}
-use Rattle.session.specs.Request.{sourceOf, requested, afterBudget}
+use Rattle.record.specs.RecordRead.{recordSaid, answered}
+use Rattle.session.specs.RequestRead.{sourceOf, requested, afterBudget}
 use Rattle.record.proofs.Answered.{no-record, a-record}
 use Rattle.session.proofs.Requests.{no-budget, a-budget}
 use Rattle.session.proofs.request.read.Statement.{statement}
@@ -29,7 +29,7 @@ module _ (c : tie.After-read) where
       ≡ some (budget .budget .given .0 .0, afterBudget (sourceOf (start .args .source)) (start .args .bytes .now))
   lasts = a-budget _ _ (sym (budget .before .before .budget-of .ensures) ∙ budget .budget .given .1)
 
-  answers : saysOf (c .read .result)
+  answers : recordSaid (c .read .result)
       ≡ answered (readRecord (afterBudget (sourceOf (start .args .source)) (start .args .bytes .now)))
   answers = rw (← c .before .record-bytes .ensures) (c .read .ensures)
 
@@ -37,14 +37,14 @@ none-read : tie.Need-returns-2
 unfolding readRequest andThen requested
 none-read c =
     let k = c .before .before in
-    rw (lasts k, andThen, no-record _ (sym (answers k) ∙ ap saysOf (c .enum-told2 .given .1)))
+    rw (lasts k, andThen, no-record _ (sym (answers k) ∙ ap recordSaid (c .enum-told2 .given .1)))
 
 both : tie.Need-returns-3
 unfolding readRequest andThen requested
 both c =
     let r = c .before in
     let k = r .before .before in
-    rw (lasts k, andThen, a-record (start k .args .bytes .now) _ (sym (answers k) ∙ ap saysOf (r .«record» .given .1)))
+    rw (lasts k, andThen, a-record (start k .args .bytes .now) _ (sym (answers k) ∙ ap recordSaid (r .«record» .given .1)))
 
 pub read-spec : {M : Type 1} → statement M
 read-spec =

@@ -6,7 +6,7 @@ use lib.ListN.{length, drop, length-drop}
 use lib.Seq.{take-all}
 use Rattle.model.specs.Program.{readBudget}
 use Rattle.model.proofs.laws.RecordLaws.{no-body, a-body}
-use Rattle.record.specs.Reading.{remaining}
+use Rattle.record.specs.RecordRead.{remaining}
 use Rattle.session.proofs.request.record_bytes.Statement.{statement}
 use Rattle.session.proofs.request.record_bytes.Tie as tie
 

@@ -13,7 +13,7 @@ use Rattle.model.specs.State.{view}
 use Rattle.model.specs.Program.{Request, Session, inputBytes, readRequest, sessionFrom}
 use Rattle.session.specs.declared.request.BudgetSource.{BudgetSource}
 use Rattle.session.specs.declared.serve.Turn.{Turn}
-use Rattle.session.specs.Request.{sourceOf}
+use Rattle.session.specs.RequestRead.{sourceOf}
 use Rattle.model.proofs.Readings.{After, request-after, fewer, bytes-after}
 use Rattle.session.proofs.Requests.{no-request, read-whole}
 use Rattle.session.proofs.Sessions.{Leads, leads-to-end, leads-to-break, leads-on}

@@ -7,7 +7,7 @@ use mathlib.Core.List.{List}
 use lib.ListN.{length}
 use Rattle.model.specs.declared.Record.{Record}
 use Rattle.model.specs.Record.{AreBytes, readRecord}
-use Rattle.record.specs.Reading.{gives, saysOf, answered, remaining}
+use Rattle.record.specs.RecordRead.{gives, recordSaid, answered, remaining}
 use Rattle.record.specs.Written.{bytesOf, written}
 use Rattle.model.proofs.laws.RecordLaws.{later-bytes}
 use Rattle.record.proofs.ReadsBack.{read-writes, read-shortens}
@@ -35,7 +35,7 @@ module _ (c : tie.After-rest Inv-loop μ-loop) where
       ≡ gives (c .before .before .before .before .found .given .0 .0)
   answer =
       let f = c .before .before .before .before in
-      sym (f .before .before .read .ensures) ∙ ap saysOf (f .found .given .1)
+      sym (f .before .before .read .ensures) ∙ ap recordSaid (f .found .given .1)
 
 loop-less : tie.Need-loop-less Inv-loop μ-loop
 loop-less c =

@@ -4,13 +4,13 @@ use mathlib.Core.List.{List}
 use mathlib.Core.Option.{none, some}
 use Rattle.model.specs.Record as model
 use Rattle.model.specs.Program as program
-use Rattle.record.specs.Reading.{remaining}
+use Rattle.record.specs.RecordRead.{remaining}
 use Rattle.session.specs.declared.request.BudgetSource.{BudgetSource}
 use Rattle.session.specs.declared.request.BudgetSource.the-variants.{Full, Given}
 use Rattle.session.specs.declared.request.Budget.{Budget}
 use Rattle.session.specs.declared.request.Budget.the-variants as budget
-use Rattle.session.specs.declared.request.Request.{Request}
-use Rattle.session.specs.declared.request.Request.the-variants as request
+use Rattle.session.specs.declared.request.RequestRead.{RequestRead}
+use Rattle.session.specs.declared.request.RequestRead.the-variants as request
 
 abbrev pub sourceOf : BudgetSource → program.BudgetSource
 sourceOf Full = program.full
@@ -21,7 +21,7 @@ unfoldable pub budgeted : model.Reading ℕ → Budget
 budgeted none = budget.Malformed
 budgeted (some r) = budget.Lasts (r .0)
 
-unfoldable pub requested : model.Reading program.Request → Request
+unfoldable pub requested : model.Reading program.Request → RequestRead
 requested none = request.Malformed
 requested (some r) = request.Read (r .0 .content) (r .0 .budget)
 

@@ -6,24 +6,24 @@ use Rattle.model.specs.declared.Topology.{Topology}
 use Rattle.model.specs.Outcome.{refusalOf}
 use Rattle.model.specs.State.{blankTopology}
 use Rattle.model.specs.Program.{planOf, planRefusal}
-use Rattle.plan.specs.declared.Reading.{Reading}
+use Rattle.plan.specs.declared.PlanRead.{PlanRead}
 
 -- what a reading says: document 01's number of the refusal, if there is one, and the plan
-pub record Says : Type 0 where
+pub record PlanSaid : Type 0 where
   pub refusal : Option ℕ
   pub plan : Topology
 
-abbrev pub saysOf : Reading → Says
-saysOf r = record { refusal = refusalOf (r .verdict); plan = r .topology }
+abbrev pub planSaid : PlanRead → PlanSaid
+planSaid r = record { refusal = refusalOf (r .verdict); plan = r .topology }
 
 -- a plan that is refused has the blank one in its place
-abbrev pub refusedPlan : ℕ → Says
+abbrev pub refusedPlan : ℕ → PlanSaid
 refusedPlan n = record { refusal = some n; plan = blankTopology }
 
-unfoldable pub answered : Option ℕ → Topology → Says
+unfoldable pub answered : Option ℕ → Topology → PlanSaid
 answered none T = record { refusal = none; plan = T }
 answered (some n) T = refusedPlan n
 
 -- "The plan's checks run: under two bytes 7; 1; 2; wires broken off 7; 3 to 5."
-unfoldable pub planSays : List ℕ → Says
-planSays bytes = answered (planRefusal bytes) (planOf bytes)
+unfoldable pub planIn : List ℕ → PlanSaid
+planIn bytes = answered (planRefusal bytes) (planOf bytes)

@@ -1,4 +1,4 @@
--- "further cells are never touched" (the statement is Untouched of specs/Extent.antt): a step that writes is accepted,
+-- "further cells are never touched" (the statement is Untouched of specs/Untouched.antt): a step that writes is accepted,
 -- so what it writes of is planned, and stands in one of the two slots or in the line cell.
 use Prim.Native.Nat.{ℕ, _<_, _≤_}
 use mathlib.Core.Path.{_≡_, refl}
@@ -29,7 +29,7 @@ use Rattle.model.specs.Write.{commitWrites}
 use Rattle.model.specs.Receive.{Reaction, logsOnly, reactionTo, anyFull}
 use Rattle.model.specs.Start.{startupOr, initializeRefusal, initialize, initializeWrites}
 use Rattle.model.specs.Step.{logChecks, nextLine, quietly, reaction, firstReaction, receive, effect, step, answer}
-use Rattle.model.specs.Extent.{InStore, Untouched}
+use Rattle.model.specs.Untouched.{InStore, Untouched}
 use Rattle.model.specs.Form as form
 use Rattle.model.proofs.laws.Tests.{either, or-left, or-right}
 use Rattle.model.proofs.laws.TopologyLaws.{Planned, receiver-planned}

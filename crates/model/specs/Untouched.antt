@@ -1,5 +1,5 @@
 -- Document 01: "A lent slice of [5,313] cells of 32 bits; further cells are never touched." As a statement; the theorem
--- is proofs/Touched.antt.
+-- is proofs/Untouched.antt.
 use Prim.Native.Nat.{ℕ, _<_, _≤_}
 use mathlib.Core.Path.{_≡_}
 use mathlib.Core.List.{List, [], _∷_}

@@ -12,7 +12,7 @@ use Rattle.reduction.specs.Reduces.{Reduces}
 
 -- Of any two answers that keep the promise for a list: those with the same places are the same, in every field and
 -- every unused place; and where the list is refused there is only one.
-pub record OpenInThePart : Type 0 where
+pub record OnlyThePart : Type 0 where
   pub places : (T : Topology) (calls : List Record) (r s : Reduced) → Reduces T calls r → Reduces T calls s
       → kept (r .part) ≡ kept (s .part) → r ≡ s
   pub refused : (T : Topology) (calls : List Record) (r s : Reduced) → Reduces T calls r → Reduces T calls s

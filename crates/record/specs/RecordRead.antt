@@ -5,21 +5,21 @@ use mathlib.Core.Option.{none, some}
 use Rattle.model.specs.declared.Record.{Record}
 use Rattle.model.specs.Outcome.{refusalNumber}
 use Rattle.model.specs.Record as model
-use Rattle.record.specs.declared.Reading.{Reading}
-use Rattle.record.specs.declared.Reading.the-variants.{Read, Refused}
+use Rattle.record.specs.declared.RecordRead.{RecordRead}
+use Rattle.record.specs.declared.RecordRead.the-variants.{Read, Refused}
 
 -- what a reading says: the record, or document 01's number of the refusal
-pub data Says : Type 0 where
-  gives : Record → Says
-  refuses : ℕ → Says
+pub data RecordSaid : Type 0 where
+  gives : Record → RecordSaid
+  refuses : ℕ → RecordSaid
 
 -- what each case of the code's answer says
-abbrev pub saysOf : Reading → Says
-saysOf (Read r) = gives r
-saysOf (Refused x) = refuses (refusalNumber x)
+abbrev pub recordSaid : RecordRead → RecordSaid
+recordSaid (Read r) = gives r
+recordSaid (Refused x) = refuses (refusalNumber x)
 
 -- "The reader gives the step [..] All else is 7."
-unfoldable pub answered : model.Reading Record → Says
+unfoldable pub answered : model.Reading Record → RecordSaid
 answered none = refuses 7
 answered (some r) = gives (r .0)
 

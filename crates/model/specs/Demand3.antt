@@ -1,19 +1,14 @@
--- Demand 3: what a recover after a list of calls gives. The theorem is proofs/Demand3.antt. Its companion says which
--- refusals never come up in such a list, and is proved in proofs/Reached.antt.
-use Prim.Native.Nat.{ℕ, _<_, _≤_}
+-- Demand 3: what a recover after a list of calls gives. The theorem is proofs/Demand3.antt.
+use Prim.Native.Nat.{ℕ, _<_}
 use mathlib.Core.Path.{_≡_}
 use mathlib.Core.Bool.{true}
 use mathlib.Core.List.{List, _++_}
 use mathlib.Core.Option.{none}
 use Rattle.model.specs.declared.Topology.{Topology}
 use Rattle.model.specs.declared.Phase.the-variants.{Idle}
-use Rattle.model.specs.declared.Step.{Step}
 use Rattle.model.specs.Word.{replay}
 use Rattle.model.specs.Topology.{sender, receiver}
 use Rattle.model.specs.Channel.{bodies, markerless}
-use Rattle.model.specs.Sound.{sound}
-use Rattle.model.specs.Outcome.{refused}
-use Rattle.model.specs.Step.{answer}
 use Rattle.model.specs.Start.{Startup, initialize, recover}
 use Rattle.model.specs.History.{History, sent, received, bodiesOn, receiptsOf, onRecover}
 use Rattle.model.specs.Run.{Call, World, run, firstWorld}
@@ -45,19 +40,3 @@ abbrev pub Demand3 : Type 0
 Demand3 =
     (T : Topology) (store : List ℕ) → initialize T store .refusal ≡ none → (calls : List Call)
     → RecoveredAfter T (run T (firstWorld T store) calls)
-
--- What a world reached by such a list is like.
-pub record Reached (T : Topology) (w : World) : Type 0 where
-  -- Its state is sound.
-  pub sound : sound (w .state) ≡ true
-  -- A step, whatever it is and whatever its budget, is refused with 8 to 13 alone: 15, 6 and 14 never come up.
-  pub steps : (x : Step) (budget n : ℕ) → answer (w .state) x (w .store) budget .outcome ≡ refused n
-      → (8 ≤ n) × (n ≤ 13)
-  -- A recover is not refused at all: 16 never comes up.
-  pub recovers : recover T (w .store) .refusal ≡ none
-
--- The companion of demand 3, under the same premises.
-abbrev pub Demand3Companion : Type 0
-Demand3Companion =
-    (T : Topology) (store : List ℕ) → initialize T store .refusal ≡ none → (calls : List Call)
-    → Reached T (run T (firstWorld T store) calls)

@@ -8,8 +8,8 @@ use Rattle.model.specs.Topology.{topologyRefusal}
 use Rattle.model.specs.Outcome.{refusalOf}
 use Rattle.model.specs.Program.{planOf, shapeRefusal, planRefusal}
 use Rattle.model.proofs.laws.Lists.{or-else-none}
-use Rattle.plan.specs.declared.Reading.{Reading}
-use Rattle.plan.specs.Reading.{Says, saysOf, answered, planSays}
+use Rattle.plan.specs.declared.PlanRead.{PlanRead}
+use Rattle.plan.specs.PlanRead.{PlanSaid, planSaid, answered, planIn}
 
 -- a plan that is read, and its checks
 pub record Passes (bytes : List ℕ) (T : Topology) : Type 0 where
@@ -17,20 +17,20 @@ pub record Passes (bytes : List ℕ) (T : Topology) : Type 0 where
   pub checks : planRefusal bytes ≡ none
   pub accepted : topologyRefusal T ≡ none
 
-module _ (r : Reading) (bytes : List ℕ) (says : saysOf r ≡ planSays bytes) where
+module _ (r : PlanRead) (bytes : List ℕ) (says : planSaid r ≡ planIn bytes) where
   pub plan-refusal : refusalOf (r .verdict) ≡ planRefusal bytes
-  unfolding planSays answered
-  plan-refusal = ap (λ (x : Says). x .refusal) says ∙ go (planRefusal bytes)
+  unfolding planIn answered
+  plan-refusal = ap (λ (x : PlanSaid). x .refusal) says ∙ go (planRefusal bytes)
     where
       go : (x : Option ℕ) → answered x (planOf bytes) .refusal ≡ x
       go none = refl
       go (some n) = refl
 
   pub plan-read : refusalOf (r .verdict) ≡ none → Passes bytes (r .topology)
-  unfolding planSays answered planRefusal
+  unfolding planIn answered planRefusal
   plan-read e =
       let checks : planRefusal bytes ≡ none = sym plan-refusal ∙ e in
-      let plan : r .topology ≡ planOf bytes = ap (λ (x : Says). x .plan) says ∙ rw checks in
+      let plan : r .topology ≡ planOf bytes = ap (λ (x : PlanSaid). x .plan) says ∙ rw checks in
       record {
         plan = plan;
         checks = checks;

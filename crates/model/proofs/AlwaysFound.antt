@@ -1,4 +1,4 @@
--- What the histories look for is there (the statement is AlwaysFound of specs/Found.antt): an accepted commit finds a
+-- What the histories look for is there (the statement is AlwaysFound of specs/AlwaysFound.antt): an accepted commit finds a
 -- mark for every planned process, and an accepted receive of a message the send of it.
 use Prim.Native.Nat.{ℕ, zero, suc, _<_}
 use mathlib.Core.Path.{_≡_, refl, sym, ap, subst, _∙_}
@@ -23,7 +23,7 @@ use Rattle.model.specs.History.{Event, History, Direction, sent, receive
 use Rattle.model.specs.History.{placeOfSend}
 use Rattle.model.specs.History.{lookedAt}
 use Rattle.model.specs.Run.{World, run, firstWorld}
-use Rattle.model.specs.Found.{Found, AlwaysFound}
+use Rattle.model.specs.AlwaysFound.{HistoriesFind, AlwaysFound}
 use Rattle.model.proofs.laws.Tests.{true-is-not-false, and-left, and-right, Tested, holds, fails, test}
 use Rattle.model.proofs.laws.Calls.{accepted-passes}
 use Rattle.model.proofs.laws.HistoryLaws.{Marked, unmarked, marked, sentOn}
@@ -105,7 +105,7 @@ pub always-found : AlwaysFound
 always-found T store ready calls =
     let w : World = run T (firstWorld T store) calls in
     let i : InvOf T w = end-holds T store ready calls in
-    subst (λ (T′ : Topology). Found T′ w) (i .topology)
+    subst (λ (T′ : Topology). HistoriesFind T′ w) (i .topology)
     (record {
       marks = marks (w .state) (w .store) (w .history) (i .holds);
       sends = sends (w .state) (w .store) (w .history) (i .holds);

@@ -14,7 +14,8 @@ use Rattle.model.specs.Start.{Startup, initialize, recover, recoverSaid, lineOr
 use Rattle.model.specs.History.{History, newHistory, onStep, onRecover}
 use Rattle.model.specs.Run.{Call, call, recovery, World, next, run, firstWorld, replyTo, onReply, onCall, commitsAfter}
 use Rattle.model.specs.Run.{stateAfter, storeAfter, countCommit}
-use Rattle.model.specs.Claim.{Recovered, RecoveredAfter, Reached}
+use Rattle.model.specs.Demand3.{Recovered, RecoveredAfter}
+use Rattle.model.specs.Reached.{Reached}
 use Rattle.model.proofs.Trace.{run-append}
 use Rattle.model.proofs.Demand3.{demand-3}
 use Rattle.model.proofs.Reached.{reached}

@@ -1,4 +1,4 @@
--- What the histories look for is there, in every world that a list of calls reaches. The theorem is proofs/Looked.antt.
+-- What the histories look for is there, in every world that a list of calls reaches. The theorem is proofs/AlwaysFound.antt.
 use Prim.Native.Nat.{ℕ, _<_}
 use mathlib.Core.Path.{_≡_}
 use mathlib.Core.Bool.{true}
@@ -14,7 +14,7 @@ use Rattle.model.specs.Start.{initialize}
 use Rattle.model.specs.History.{sent, lookedAt}
 use Rattle.model.specs.Run.{Call, World, run, firstWorld}
 
-pub record Found (T : Topology) (w : World) : Type 0 where
+pub record HistoriesFind (T : Topology) (w : World) : Type 0 where
   -- An accepted commit finds a mark of the round for every planned process, so that `markOr` never falls back.
   pub marks : (budget : ℕ) → accepted (answer (w .state) Commit (w .store) budget .outcome) ≡ true
       → (p : ℕ) → p < T .processes → (m : ℕ) × (w .history .mark p ≡ some m)
@@ -27,4 +27,4 @@ pub record Found (T : Topology) (w : World) : Type 0 where
 abbrev pub AlwaysFound : Type 0
 AlwaysFound =
     (T : Topology) (store : List ℕ) → initialize T store .refusal ≡ none → (calls : List Call)
-    → Found T (run T (firstWorld T store) calls)
+    → HistoriesFind T (run T (firstWorld T store) calls)
