@@ -15,7 +15,7 @@ use Rattle.model.specs.declared.Refusal.{Refusal}
 use Rattle.model.specs.Check.{firstRefusal}
 use Rattle.model.specs.Write.{underBudget, writeAll}
 use Rattle.model.specs.Step.{quietly, receivedOutcome}
-use Rattle.model.specs.Outcome.{refused, refusalNumber, saidBy, accepted}
+use Rattle.model.specs.Outcome.{refused, refusalNumber, saidBy}
 use Rattle.model.proofs.laws.Effects.{received-accepted}
 use Rattle.model.proofs.laws.Tests.{true-is-not-false}
 use Rattle.rules.specs.declared.reaction.Reaction.{Reaction}
@@ -27,7 +27,7 @@ use Rattle.engine.proofs.Promises.{unbudgeted}
 module _ (x : Reaction) (a : Setting) (e : Entry) (line : ℕ) (before : List ℕ) (budget : ℕ) where
   pub attempt-refused : (n : Refusal) → firstRefusal (receiveChecks x a) ≡ some (refusalNumber n)
       → Attempts x a e line before budget (record { received = false; outcome = Refused n; made = 0 }) before
-  unfolding unlessRefused quietly accepted
+  unfolding unlessRefused quietly
   attempt-refused n h =
       record {
         answered = λ s next. rw h (unbudgeted budget s before (quietly (refused (refusalNumber n)) s) refl);
@@ -39,7 +39,7 @@ module _ (x : Reaction) (a : Setting) (e : Entry) (line : ℕ) (before : List �
       (written : after ≡ writeAll before (take budget (entryWrites x a line e))) where
     pub attempt-lost : budget < length (entryWrites x a line e)
         → Attempts x a e line before budget (record { received = false; outcome = PowerLost; made = budget }) after
-    unfolding unlessRefused underBudget accepted
+    unfolding unlessRefused underBudget
     attempt-lost l =
         let k : budget ≤ length (entryWrites x a line e) = omega arith in
         record {

@@ -23,7 +23,8 @@ use Rattle.model.specs.State.{GlobalState, view}
 use Rattle.model.specs.Sound.{sound}
 use Rattle.model.specs.Write.{Result, Answered, underBudget, writeAll}
 use Rattle.model.specs.Step.{step, ownChecks, stepChecks, resultOf, effect, answer, quietly}
-use Rattle.model.specs.Outcome.{refusalNumber, saidBy, accepted}
+use Rattle.model.specs.Outcome.{refusalNumber, saidBy}
+use Rattle.model.specs.Heard.{accepted}
 use Rattle.model.specs.Outcome as says
 use Rattle.model.proofs.laws.Tests.{true-is-not-false}
 use Rattle.engine.specs.Answers.{Meets, Answers, refusedBy, ownResult, Performs, Quiet}
@@ -77,7 +78,6 @@ module _ (s : State) (x : Step) where
   pub quiet-done : firstRefusal (ownChecks (view s) x) ≡ none → (seen : GlobalState)
       → effect (view s) x ≡ quietly says.done seen → (next : State) → view next ≡ seen
       → Quiet s x (record { outcome = Done; made = 0; state = next })
-  unfolding accepted
   quiet-done e seen f next v = quiet-accepted e Done refl seen f next v
 
   -- answers of a step that writes: refused, with the power lost, and done
@@ -102,7 +102,7 @@ module _ (s : State) (x : Step) where
 
       pub performs-lost : budget < length (effect (view s) x .writes)
           → Performs s x before budget (record { outcome = PowerLost; made = budget; state = s }) after
-      unfolding underBudget accepted
+      unfolding underBudget
       performs-lost l =
           own _ (record {
             outcome = rw (lt-ltb budget (length (effect (view s) x .writes)) l);
@@ -116,7 +116,7 @@ module _ (s : State) (x : Step) where
           → made ≡ length (effect (view s) x .writes) → effect (view s) x .outcome ≡ says.done → (next : State)
           → view next ≡ effect (view s) x .state
           → Performs s x before budget (record { outcome = Done; made = made; state = next }) after
-      unfolding underBudget accepted
+      unfolding underBudget
       performs-done l made m o next v =
           own _ (record {
             outcome = rw (le-ltb budget (length (effect (view s) x .writes)) l) (sym o);

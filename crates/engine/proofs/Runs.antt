@@ -9,11 +9,11 @@ use Rattle.model.specs.declared.Step.{Step}
 use Rattle.model.specs.declared.Answer.{Answer}
 use Rattle.model.specs.declared.Started.{Started}
 use Rattle.model.specs.State.{view}
-use Rattle.model.specs.Outcome.{saidBy, startRefusal, accepted}
+use Rattle.model.specs.Outcome.{startRefusal}
 use Rattle.model.specs.Start.{Startup, initialize, recover, recoverSaid, lineOr, stateOr}
-use Rattle.model.specs.History.{History, newHistory, onStep, onRecover}
+use Rattle.model.specs.History.{History, newHistory, onRecover}
 use Rattle.model.specs.Run.{Call, call, recovery, World, next, run, firstWorld, replyTo, onReply, onCall, commitsAfter}
-use Rattle.model.specs.Run.{stateAfter, storeAfter, countCommit}
+use Rattle.model.specs.Run.{stateAfter, storeAfter, countCommit, isCommit}
 use Rattle.model.specs.Demand3.{Recovered, RecoveredAfter}
 use Rattle.model.specs.Reached.{Reached}
 use Rattle.model.proofs.Trace.{run-append}
@@ -21,7 +21,8 @@ use Rattle.model.proofs.Demand3.{demand-3}
 use Rattle.model.proofs.Reached.{reached}
 use Rattle.engine.specs.Answers.{Answers}
 use Rattle.recovery.specs.Starts.{Starts}
-use Rattle.engine.specs.Runs.{Runs, initialized, stepped, recovered, startupOf, Demand3OfCode, CompanionOfCode}
+use Rattle.engine.specs.Runs.{Runs, initialized, stepped, recovered, startupOf, stepReply, Demand3OfCode}
+use Rattle.engine.specs.Runs.{CompanionOfCode}
 
 -- the same world, reached by calls of the definitions
 pub record Replayed (T : Topology) (w : World) : Type 0 where
@@ -67,15 +68,16 @@ module _ (T : Topology) where
 
   module _ (s : State) {store : List ℕ} {h : History} {commits : ℕ} (i : Replayed T (worldOf s store h commits)) where
     after-step : (x : Step) (budget : ℕ) (r : Answer) (after : List ℕ) → Answers s x store budget r after
-        → let said = saidBy (r .outcome) in
-        Replayed T (worldOf (r .state) after (onStep T x said h) (countCommit x said commits))
-    unfolding next replyTo onReply onCall commitsAfter stateAfter storeAfter
+        → let reply = stepReply x budget r in
+        Replayed T (worldOf (r .state) after (onReply T reply h) (commitsAfter reply commits))
+    unfolding next replyTo stateAfter storeAfter
     after-step x budget r after meets =
-        subst (Replayed T) (rw (meets .state, meets .store, meets .outcome)) (more i (call x budget))
+        subst (Replayed T) (rw (meets .state, meets .store, meets .outcome, meets .made)) (more i (call x budget))
 
     after-recover : (r : Started) → Starts (recover T store) r store
         → Replayed T (worldOf (r .state) store (onRecover h) commits)
-    unfolding next replyTo onReply onCall commitsAfter stateAfter storeAfter recoverSaid lineOr stateOr accepted
+    unfolding next replyTo onReply onCall commitsAfter countCommit isCommit stateAfter storeAfter recoverSaid lineOr
+        stateOr
     after-recover r meets =
         subst (Replayed T) (rw (recovers i .accepted, ← meets .state, ← meets .store)) (more i recovery)
 

@@ -21,7 +21,8 @@ use Rattle.model.specs.State.{GlobalState, Progress, LogCounts}
 use Rattle.model.specs.Receive.{anyFull}
 use Rattle.model.specs.Write.{Write, Result, underBudget, logsWrites}
 use Rattle.model.specs.Step.{quietly, receivedOutcome}
-use Rattle.model.specs.Outcome.{refused, saidBy, accepted}
+use Rattle.model.specs.Outcome.{refused, saidBy}
+use Rattle.model.specs.Heard.{accepted}
 use Rattle.rules.specs.declared.reaction.Reaction.{Reaction}
 use Rattle.rules.specs.Reacting.{viewReaction}
 use Rattle.engine.specs.declared.receive.Setting.{Setting}

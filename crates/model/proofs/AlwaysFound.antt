@@ -17,7 +17,8 @@ use Rattle.model.specs.declared.Step.the-variants.{Receive, Commit}
 use Rattle.model.specs.Topology.{sender, receiver}
 use Rattle.model.specs.Channel.{bodies}
 use Rattle.model.specs.State.{GlobalState}
-use Rattle.model.specs.Outcome.{took, accepted}
+use Rattle.model.specs.Outcome.{took}
+use Rattle.model.specs.Heard.{accepted}
 use Rattle.model.specs.Step.{quietly, receivedOutcome, receive, effect, answer}
 use Rattle.model.specs.History.{Event, History, Direction, sent, received, isOn, sameDirection, bodiesOn}
 use Rattle.model.specs.History.{placeOfSend}
@@ -92,7 +93,7 @@ module _ (s : GlobalState) (st : List ℕ) (h : History) (i : Inv s st h) where
 
   sends : (c budget b : ℕ) → answer s (Receive c) st budget .outcome ≡ took b
       → take 1 (drop (lookedAt (s .topology) c h) (h .events (sender (s .topology) c))) ≡ sentOn c b ∷ []
-  unfolding accepted effect lookedAt seenOf bookOf
+  unfolding effect lookedAt seenOf bookOf
   sends c budget b e =
       let (a, is) = accepted-passes s (Receive c) st budget (rw e) in
       let (rest, first) = received-first s c (s .channel c) b (rw is at e) in

@@ -8,14 +8,11 @@ use mathlib.Core.Option.{none}
 use Rattle.model.specs.declared.Topology.{Topology}
 use Rattle.model.specs.declared.Step.{Step}
 use Rattle.model.specs.Topology.{topologyRefusal}
-use Rattle.model.specs.Outcome.{accepted}
 use Rattle.model.specs.State.{idleState}
 use Rattle.model.specs.Start.{initialize, recover, recoverSaid, lineOr, stateOr}
-use Rattle.model.specs.Step.{answer}
 use Rattle.model.specs.History.{onRecover}
 use Rattle.model.specs.Run.{Call, call, recovery, World, next, run, firstWorld, replyTo, onReply, onCall}
-use Rattle.model.specs.Run.{stateAfter}
-use Rattle.model.specs.Run.{storeAfter, commitsAfter, countCommit}
+use Rattle.model.specs.Run.{stateAfter, storeAfter, commitsAfter, countCommit, isCommit}
 use Rattle.model.specs.Demand3.{Recovered, RecoveredAfter, Demand3}
 use Rattle.model.proofs.laws.Effects.{answer-follows}
 use Rattle.model.proofs.line.Invariant.{Inv}
@@ -45,13 +42,13 @@ step-keeps w x budget i =
     let after = answer-follows (w .state) x (w .store) budget in
     record {
       topology = after .topology;
-      line = after .line ∙ ap (countCommit x (answer (w .state) x (w .store) budget .outcome)) (i .line);
+      line = after .line ∙ ap (commitsAfter (replyTo (w .state .topology) w (call x budget))) (i .line);
       holds = step-kept (w .state) (w .store) (w .history) (i .holds) x budget;
     }
 
 recover-keeps : (w : World) → topologyRefusal (w .state .topology) ≡ none → InvOf (w .state .topology) w
     → InvOf (w .state .topology) (next (w .state .topology) w recovery)
-unfolding next replyTo onReply onCall stateAfter storeAfter commitsAfter recoverSaid lineOr stateOr accepted idleState
+unfolding next replyTo onReply onCall stateAfter storeAfter commitsAfter countCommit isCommit recoverSaid lineOr stateOr idleState
 recover-keeps w good i =
     rw (
       recovers (w .state) (w .store) (w .history) good (i .holds) .accepted,

@@ -14,7 +14,7 @@ use Rattle.model.specs.Check.{firstRefusal}
 use Rattle.model.specs.Topology.{sender, hasChannel}
 use Rattle.model.specs.Channel.{roomLeft, noRoom, noRoomForMessage}
 use Rattle.model.specs.Layout.{storeCells}
-use Rattle.model.specs.Outcome.{sent, refused, accepted, roomSaid}
+use Rattle.model.specs.Outcome.{sent, refused, roomSaid}
 use Rattle.model.specs.State.{GlobalState}
 use Rattle.model.specs.Sound.{sound}
 use Rattle.model.specs.Change.{setEntries, withChannel}
@@ -73,7 +73,7 @@ module _ (s : GlobalState) (store : List ℕ) (c d budget : ℕ) (fit : sound s 
       go (fails t) = rw t (free t)
 
 pub next-send : NextSend
-unfolding effect quietly writeAll accepted setEntries withChannel
+unfolding effect quietly writeAll setEntries withChannel
 next-send s store c b d n budget later e =
     let (a, q) = accepted-passes s (Send c b) store budget (rw e) in
     let es : List Entry = s .channel c ++ (Message b (s .tag (sender (s .topology) c)) ∷ []) in

@@ -21,7 +21,8 @@ use Rattle.model.specs.Topology.{receiver, hasChannel}
 use Rattle.model.specs.Layout.{storeCells}
 use Rattle.model.specs.State.{GlobalState}
 use Rattle.model.specs.Sound.{sound}
-use Rattle.model.specs.Outcome.{refused, cut, accepted}
+use Rattle.model.specs.Outcome.{refused, cut}
+use Rattle.model.specs.Heard.{accepted}
 use Rattle.model.specs.Write.{underBudget}
 use Rattle.model.specs.Receive.{Reaction, logsOnly, reactionTo}
 use Rattle.model.specs.Step.{reaction, firstReaction, markerOnClosed, priorChecks, roomChecks, logChecks}
@@ -73,7 +74,7 @@ first-left (c ∷ cs) r (check here later) e = go (test (c .fails)) (first-left 
 refused-by : (s : GlobalState) (x : Step) (st : List ℕ) (budget : ℕ) (r : ℕ)
     → answer s x st budget .outcome ≡ refused r
     → firstRefusal (stepChecks s (length st) x) ≡ some r
-unfolding answer step resultOf quietly accepted
+unfolding answer step resultOf quietly
 refused-by s x st budget r e = go (firstRefusal (stepChecks s (length st) x)) (power-cases budget s st _) e
   where
     go : (o : Option ℕ) → Powered budget s st (resultOf o s x)

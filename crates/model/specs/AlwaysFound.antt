@@ -8,7 +8,8 @@ use lib.ListN.{take, drop}
 use Rattle.model.specs.declared.Topology.{Topology}
 use Rattle.model.specs.declared.Step.the-variants.{Receive, Commit}
 use Rattle.model.specs.Topology.{sender}
-use Rattle.model.specs.Outcome.{took, accepted}
+use Rattle.model.specs.Outcome.{took}
+use Rattle.model.specs.Heard.{accepted}
 use Rattle.model.specs.Step.{answer}
 use Rattle.model.specs.Start.{initialize}
 use Rattle.model.specs.History.{sent, lookedAt}

@@ -1,5 +1,5 @@
--- Document 01, "The books". A book is a process's history, its entries are events. Histories are fed calls and answers
--- alone: state, logs and store are never asked.
+-- Document 01, "The books". A book is a process's history, its entries are events. Histories are fed calls and what is
+-- heard of their answers (Heard.antt): "State, logs and store are never asked."
 use Prim.Native.Nat.{ℕ, zero, suc}
 use mathlib.Core.Bool.{Bool, true, false, cond, _&&_}
 use mathlib.Core.List.{List, [], _∷_, _++_}
@@ -14,8 +14,8 @@ use Rattle.model.specs.declared.Receipt.{Receipt}
 use Rattle.model.specs.Notation.{upd}
 use Rattle.model.specs.Word.{receipt}
 use Rattle.model.specs.Topology.{sender, receiver}
-use Rattle.model.specs.Outcome.{Said, accepted}
-use Rattle.model.specs.Outcome as says
+use Rattle.model.specs.Heard.{Heard, isAccepted}
+use Rattle.model.specs.Heard as hears
 
 -- "entries are sends and takes with wire and body"
 pub data Direction : Type 0 where
@@ -103,14 +103,12 @@ onMessage T c b h =
     (cond (sentAfterMark T c h) (markUnmarked (h .mark (receiver T c)) (receiver T c) h) h)
 
 -- "Take giving a body", "Take giving a note: a receiver without a mark of this round is marked. No entry."
-unfoldable pub onReceive : Topology → ℕ → Said → History → History
-onReceive T c says.done h = h
-onReceive T c (says.sent room) h = h
-onReceive T c (says.took b) h = onMessage T c b h
-onReceive T c says.note h = markUnmarked (h .mark (receiver T c)) (receiver T c) h
-onReceive T c (says.line k) h = h
-onReceive T c (says.refused n) h = h
-onReceive T c says.cut h = h
+-- (An accepted receive gives one of them.)
+unfoldable pub onReceive : Topology → ℕ → Heard → History → History
+onReceive T c hears.nothing h = h
+onReceive T c hears.acceptance h = h
+onReceive T c hears.marker h = markUnmarked (h .mark (receiver T c)) (receiver T c) h
+onReceive T c (hears.body b) h = onMessage T c b h
 
 -- the place of p's mark in a line, where the round has one
 unfoldable pub markOr : Option ℕ → ℕ → ℕ
@@ -127,7 +125,7 @@ unfoldable pub onRecover : History → History
 onRecover h = record { events = λ p. take (h .line p) (h .events p); line = h .line; mark = λ p. none }
 
 -- what an accepted step does to the histories
-unfoldable pub onAccepted : Topology → Step → Said → History → History
+unfoldable pub onAccepted : Topology → Step → Heard → History → History
 -- "Send: it enters the sender's book."
 onAccepted T (Send c b) o h = addEvent (sender T c) (record { direction = sent; channel = c; body = b }) h
 onAccepted T (Receive c) o h = onReceive T c o h
@@ -141,7 +139,6 @@ onAccepted T Commit o h = onCommit h
 -- "Give up: the round has none."
 onAccepted T Abort o h = noMarks h
 
--- "They are fed every call with its arguments and, of its answer, whether it was accepted (neither refused nor cut) and
--- whether a take gave a note or a body, and which body." "every refused or cut call: nothing"
-unfoldable pub onStep : Topology → Step → Said → History → History
-onStep T x o h = cond (accepted o) (onAccepted T x o h) h
+-- what a step does to them, by what was heard of its answer: "every refused or cut call: nothing"
+unfoldable pub onStep : Topology → Step → Heard → History → History
+onStep T x o h = cond (isAccepted o) (onAccepted T x o h) h

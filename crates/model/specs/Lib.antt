@@ -20,6 +20,7 @@ pub mod Start
 pub mod Record
 pub mod RoundTrip
 pub mod Program
+pub mod Heard
 pub mod History
 pub mod Run
 pub mod Demand3

@@ -1,7 +1,6 @@
 -- What an answer says, in document 01's words and numbers, and what each case of the enums that the code answers with
 -- says. Definitions speak of what is said, and every promise about such an enum goes through what its case says.
 use Prim.Native.Nat.{ℕ}
-use mathlib.Core.Bool.{Bool, true, false}
 use mathlib.Core.List.{List, [], _∷_}
 use mathlib.Core.Option.{Option, none, some}
 use Rattle.model.specs.declared.Outcome.{Outcome}
@@ -36,16 +35,6 @@ saidValues note = []
 saidValues (line k) = k ∷ []
 saidValues (refused n) = n ∷ []
 saidValues cut = []
-
--- "accepted (neither refused nor cut)"
-unfoldable pub accepted : Said → Bool
-accepted done = true
-accepted (sent room) = true
-accepted (took body) = true
-accepted note = true
-accepted (line k) = true
-accepted (refused n) = false
-accepted cut = false
 
 -- "Turned down, by who causes it": document 01's number of each refusal of the code
 abbrev pub refusalNumber : Refusal → ℕ

@@ -39,8 +39,7 @@ ToldLine recovery commits r = r .outcome ≡ line commits
 -- every recover's
 abbrev pub ToldLines : ℕ → List Reply → Type 0
 ToldLines commits [] = Unit
-ToldLines commits (r ∷ rs) =
-    ToldLine (r .call) commits r × ToldLines (commitsAfter (r .call) (r .outcome) commits) rs
+ToldLines commits (r ∷ rs) = ToldLine (r .call) commits r × ToldLines (commitsAfter r commits) rs
 
 -- A session of these requests, after an initialize of T on this store; broken: the bytes after them aren't one.
 pub record IsRun (T : Topology) (store : List ℕ) (requests : List Request) (broken : Bool) (s : Session) : Type 0 where

@@ -1,15 +1,16 @@
 -- Lists of calls after an accepted setup: steps 1 to 8 and restarts in any order, with any arguments and any current.
 use Prim.Native.Nat.{ℕ, _+_}
-use mathlib.Core.Bool.{Bool, true, false, cond}
+use mathlib.Core.Bool.{Bool, true, false, cond, _&&_}
 use mathlib.Core.List.{List, [], _∷_}
 use Rattle.model.specs.declared.Topology.{Topology}
 use Rattle.model.specs.declared.Step.{Step}
 use Rattle.model.specs.declared.Step.the-variants.{Send, Receive, Begin, PhysicalCheckpoint}
 use Rattle.model.specs.declared.Step.the-variants.{LogicalCheckpoint, SendMarker, Commit, Abort}
 use Rattle.model.specs.State.{GlobalState}
-use Rattle.model.specs.Outcome.{Said, accepted}
+use Rattle.model.specs.Outcome.{Said}
 use Rattle.model.specs.Step.{answer}
 use Rattle.model.specs.Start.{Startup, initialize, recover, recoverSaid, stateOr}
+use Rattle.model.specs.Heard.{Heard, heard, isAccepted}
 use Rattle.model.specs.History.{History, newHistory, onStep, onRecover}
 
 -- a call: a step with its budget, or a recover. The arguments are any natural numbers.
@@ -24,19 +25,16 @@ pub record World : Type 0 where
   pub history : History
   pub commits : ℕ
 
-unfoldable pub isCommit : Step → Bool
-isCommit (Send c b) = false
-isCommit (Receive c) = false
-isCommit Begin = false
-isCommit (PhysicalCheckpoint p) = false
-isCommit (LogicalCheckpoint p) = false
-isCommit (SendMarker c) = false
-isCommit Commit = true
-isCommit Abort = false
-
--- one more, where a commit was accepted
-unfoldable pub countCommit : Step → Said → ℕ → ℕ
-countCommit x o n = cond (isCommit x) (cond (accepted o) (n + 1) n) n
+unfoldable pub isCommit : Call → Bool
+isCommit (call (Send c b) budget) = false
+isCommit (call (Receive c) budget) = false
+isCommit (call Begin budget) = false
+isCommit (call (PhysicalCheckpoint p) budget) = false
+isCommit (call (LogicalCheckpoint p) budget) = false
+isCommit (call (SendMarker c) budget) = false
+isCommit (call Commit budget) = true
+isCommit (call Abort budget) = false
+isCommit recovery = false
 
 -- What a call was answered: what the answer says, and the writes made. A recover makes none.
 pub record Reply : Type 0 where
@@ -53,18 +51,21 @@ replyTo T w (call x budget) =
     }
 replyTo T w recovery = record { call = recovery; outcome = recoverSaid (recover T (w .store)); made = 0 }
 
--- the histories after a call with this outcome
-unfoldable pub onCall : Topology → Call → Said → History → History
+-- the histories after a call, by what was heard of its answer
+unfoldable pub onCall : Topology → Call → Heard → History → History
 onCall T (call x budget) o h = onStep T x o h
-onCall T recovery o h = cond (accepted o) (onRecover h) h
+onCall T recovery o h = cond (isAccepted o) (onRecover h) h
 
--- the histories are fed replies alone
+-- one more, where a commit was accepted
+unfoldable pub countCommit : Call → Heard → ℕ → ℕ
+countCommit c o n = cond (isAccepted o && isCommit c) (n + 1) n
+
+-- the histories, and the number of accepted commits, are fed replies alone
 unfoldable pub onReply : Topology → Reply → History → History
-onReply T r h = onCall T (r .call) (r .outcome) h
+onReply T r h = onCall T (r .call) (heard (r .outcome)) h
 
-unfoldable pub commitsAfter : Call → Said → ℕ → ℕ
-commitsAfter (call x budget) o n = countCommit x o n
-commitsAfter recovery o n = n
+unfoldable pub commitsAfter : Reply → ℕ → ℕ
+commitsAfter r n = countCommit (r .call) (heard (r .outcome)) n
 
 unfoldable pub stateAfter : Topology → World → Call → GlobalState
 stateAfter T w (call x budget) = answer (w .state) x (w .store) budget .state
@@ -83,7 +84,7 @@ next T w c =
       state = stateAfter T w c;
       store = storeAfter T w c;
       history = onReply T reply (w .history);
-      commits = commitsAfter (reply .call) (reply .outcome) (w .commits);
+      commits = commitsAfter reply (w .commits);
     }
 
 -- the calls one after the other

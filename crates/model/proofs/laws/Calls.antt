@@ -18,7 +18,8 @@ use Rattle.model.specs.Check.{firstRefusal}
 use Rattle.model.specs.Layout.{storeCells}
 use Rattle.model.specs.State.{GlobalState}
 use Rattle.model.specs.Sound.{sound}
-use Rattle.model.specs.Outcome.{refused, cut, accepted}
+use Rattle.model.specs.Outcome.{refused, cut}
+use Rattle.model.specs.Heard.{accepted}
 use Rattle.model.specs.Write.{Result, Answered, underBudget, writeAll}
 use Rattle.model.specs.Step.{priorChecks, roomChecks, logChecks, ownChecks, stepChecks, quietly, effect, resultOf}
 use Rattle.model.specs.Step.{step, answer}
@@ -113,7 +114,7 @@ accepted-by s x store budget fit cells own power =
 pub accepted-passes : (s : GlobalState) (x : Step) (store : List ℕ) (budget : ℕ)
     → accepted (answer s x store budget .outcome) ≡ true
     → Accepted s (length store) x × (answer s x store budget ≡ answered s x store)
-unfolding answer quietly accepted
+unfolding answer quietly
 accepted-passes s x store budget ok = go (step-cases s (length store) x)
   where
     Performed : Type 0

@@ -1,7 +1,7 @@
 -- What every step does alike: its effect is accepted, the topology stays, and the line is raised by a commit alone.
 use Prim.Native.Nat.{ℕ, _+_}
 use mathlib.Core.Path.{_≡_, refl, sym, subst}
-use mathlib.Core.Bool.{true, false, cond}
+use mathlib.Core.Bool.{true, cond}
 use mathlib.Core.List.{List, [], _∷_}
 use lib.ListN.{length}
 use lib.Dec.{ltb}
@@ -16,22 +16,23 @@ use Rattle.model.specs.State.{GlobalState, raisedAll}
 use Rattle.model.specs.Change.{withRound, withWord, withTag, withChannel, withProgress, withCounts, inPhase}
 use Rattle.model.specs.Change.{setEntries}
 use Rattle.model.specs.Change.{enterMessage, logicalCheckpoint, close, recordSent, endRound}
-use Rattle.model.specs.Outcome.{Said, refused, cut, accepted}
+use Rattle.model.specs.Outcome.{refused}
+use Rattle.model.specs.Heard.{heard, accepted}
 use Rattle.model.specs.Write.{Answered, underBudget}
 use Rattle.model.specs.Receive.{Reaction}
 use Rattle.model.specs.Step.{quietly, nextLine, reaction, react, receivedOutcome, receive, afterPhysical, effect}
 use Rattle.model.specs.Step.{step, answer}
-use Rattle.model.specs.Run.{isCommit, countCommit}
+use Rattle.model.specs.Run.{call, isCommit, countCommit}
 use Rattle.model.proofs.laws.Tests.{either}
 use Rattle.model.proofs.laws.Calls.{Stepped, stopped, passes, step-cases, Powered, lost, lasts, power-cases}
 
 pub received-accepted : (e : Entry) → accepted (receivedOutcome e) ≡ true
-unfolding accepted receivedOutcome
+unfolding receivedOutcome
 received-accepted (Message b t) = refl
 received-accepted Marker = refl
 
 pub effect-accepted : (s : GlobalState) (x : Step) → accepted (effect s x .outcome) ≡ true
-unfolding effect quietly accepted receive
+unfolding effect quietly receive
 effect-accepted s (Send c b) = refl
 effect-accepted s (Receive c) = go (s .channel c)
   where
@@ -78,45 +79,42 @@ receive-follows s c (Marker ∷ es) =
     let h = react-follows (reaction s c Marker) c (receiver (s .topology) c) s in
     record { topology = h .topology; line = h .line }
 
-effect-follows : (s : GlobalState) (x : Step)
-    → Follows s (effect s x .state) (countCommit x (effect s x .outcome) (s .round .line))
+effect-follows : (budget : ℕ) (s : GlobalState) (x : Step)
+    → Follows s (effect s x .state) (countCommit (call x budget) (heard (effect s x .outcome)) (s .round .line))
 unfolding effect quietly nextLine afterPhysical inPhase setEntries withChannel withRound withTag withProgress withCounts
-    logicalCheckpoint recordSent endRound countCommit isCommit accepted
-effect-follows s (Send c b) = record { topology = refl; line = refl }
-effect-follows s (Receive c) = receive-follows s c (s .channel c)
-effect-follows s Begin = record { topology = refl; line = refl }
-effect-follows s (PhysicalCheckpoint p) =
+    logicalCheckpoint recordSent endRound countCommit isCommit
+effect-follows budget s (Send c b) = record { topology = refl; line = refl }
+effect-follows budget s (Receive c) = rw (effect-accepted s (Receive c)) (receive-follows s c (s .channel c))
+effect-follows budget s Begin = record { topology = refl; line = refl }
+effect-follows budget s (PhysicalCheckpoint p) =
     either (λ (y : GlobalState). Follows s y (s .round .line)) (ltb (p + 1) (s .topology .processes)) _ _
     (record { topology = refl; line = refl }) (record { topology = refl; line = refl })
-effect-follows s (LogicalCheckpoint p) = record { topology = refl; line = refl }
-effect-follows s (SendMarker c) = record { topology = refl; line = refl }
-effect-follows s Commit = record { topology = refl; line = refl }
-effect-follows s Abort = record { topology = refl; line = refl }
-
--- a call that is not accepted is no commit
-no-commit : (x : Step) (o : Said) (n : ℕ) → accepted o ≡ false → countCommit x o n ≡ n
-unfolding countCommit
-no-commit x o n e = either (λ (m : ℕ). m ≡ n) (isCommit x) _ _ (rw e) refl
+effect-follows budget s (LogicalCheckpoint p) = record { topology = refl; line = refl }
+effect-follows budget s (SendMarker c) = record { topology = refl; line = refl }
+effect-follows budget s Commit = record { topology = refl; line = refl }
+effect-follows budget s Abort = record { topology = refl; line = refl }
 
 pub answer-follows : (s : GlobalState) (x : Step) (store : List ℕ) (budget : ℕ)
-    → Follows s (answer s x store budget .state) (countCommit x (answer s x store budget .outcome) (s .round .line))
-unfolding answer accepted quietly
+    → Follows s (answer s x store budget .state)
+    (countCommit (call x budget) (heard (answer s x store budget .outcome)) (s .round .line))
+unfolding answer quietly countCommit
 answer-follows s x store budget = go (step-cases s (length store) x)
   where
     After : Answered → Type 0
-    After a = Follows s (a .state) (countCommit x (a .outcome) (s .round .line))
+    After a = Follows s (a .state) (countCommit (call x budget) (heard (a .outcome)) (s .round .line))
 
-    stays : (o : Said) → accepted o ≡ false → Follows s s (countCommit x o (s .round .line))
-    stays o e = record { topology = refl; line = sym (no-commit x o (s .round .line) e) }
+    -- a call that is not accepted is no commit
+    stays : Follows s s (s .round .line)
+    stays = record { topology = refl; line = refl }
 
     refuses : (r : ℕ) → Powered budget s store (quietly (refused r) s)
         → After (underBudget budget s store (quietly (refused r) s))
     refuses r (lost l q) = absurd (omega arith)
-    refuses r (lasts l q) = subst After (sym q) (stays (refused r) refl)
+    refuses r (lasts l q) = subst After (sym q) stays
 
     does : Powered budget s store (effect s x) → After (underBudget budget s store (effect s x))
-    does (lost l q) = subst After (sym q) (stays cut refl)
-    does (lasts l q) = subst After (sym q) (effect-follows s x)
+    does (lost l q) = subst After (sym q) stays
+    does (lasts l q) = subst After (sym q) (effect-follows budget s x)
 
     go : Stepped s (length store) x → After (underBudget budget s store (step s (length store) x))
     go (stopped r e) = rw e (refuses r (power-cases budget s store (quietly (refused r) s)))

@@ -10,7 +10,6 @@ use Rattle.model.specs.Topology.{hasChannel}
 use Rattle.model.specs.Channel.{bodies, messages}
 use Rattle.model.specs.State.{GlobalState}
 use Rattle.model.specs.Change.{plainChannels, endRound, withTag, withChannel, withProgress, withRound}
-use Rattle.model.specs.Outcome.{accepted}
 use Rattle.model.specs.Write.{writeAll}
 use Rattle.model.specs.Step.{effect, quietly}
 use Rattle.model.specs.History.{History, noMarks, onStep, onAccepted}
@@ -27,7 +26,7 @@ module _ (s : GlobalState) (st : List ℕ) (h : History) (i : Inv s st h) where
   same-bodies c l = ap bodies (plain c l) ∙ bodies-messages false (bodies (s .channel c))
 
   pub abort-kept : KeepsBy s st h Abort (effect s Abort)
-  unfolding effect quietly endRound withTag withChannel withProgress withRound writeAll onStep onAccepted accepted
+  unfolding effect quietly endRound withTag withChannel withProgress withRound writeAll onStep onAccepted
       noMarks bookOf seenOf
   abort-kept =
       record {

@@ -13,7 +13,6 @@ use Rattle.model.specs.Phase.{isIdle}
 use Rattle.model.specs.Layout.{messageLog, channelLog}
 use Rattle.model.specs.State.{GlobalState, noCounts}
 use Rattle.model.specs.Change.{inPhase, withRound, withCounts}
-use Rattle.model.specs.Outcome.{accepted}
 use Rattle.model.specs.Write.{Write, writeAll, clearWrites}
 use Rattle.model.specs.Step.{effect, nextLine}
 use Rattle.model.specs.History.{History, onStep, onAccepted}
@@ -35,7 +34,7 @@ module _ (s : GlobalState) (st : List ℕ) (h : History) (may : isIdle (s .round
 
   -- the slot's logs are empty, and no process is saved yet
   begun : KeepsBy s st h Begin (effect s Begin)
-  unfolding effect nextLine inPhase withRound withCounts noCounts onStep onAccepted accepted slotBy heldBy
+  unfolding effect nextLine inPhase withRound withCounts noCounts onStep onAccepted slotBy heldBy
   begun =
       let kept : Spared s st (writeAll st writes) = spared-all i writes into in
       let empty = cleared (s .topology) st (i .sized) (s .round .line + 1) in

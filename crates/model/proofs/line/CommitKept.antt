@@ -12,7 +12,6 @@ use Rattle.model.specs.declared.Step.the-variants.{Commit}
 use Rattle.model.specs.Layout.{messageLog, channelLog}
 use Rattle.model.specs.State.{GlobalState}
 use Rattle.model.specs.Change.{endRound, withProgress, withRound}
-use Rattle.model.specs.Outcome.{accepted}
 use Rattle.model.specs.Write.{writeAll, commitWrites}
 use Rattle.model.specs.Step.{effect, nextLine}
 use Rattle.model.specs.History.{Event, Direction, History, sent, received, bodiesOn, markOr, onCommit, onStep}
@@ -79,7 +78,7 @@ module _ (s : GlobalState) (st : List ℕ) (h : History) (ends : EndsPlanned (s 
   seen-line d c p l = ap (bodiesOn d c) (at-line p l)
 
   lasts : KeepsBy s st h Commit (effect s Commit)
-  unfolding effect nextLine endRound withProgress withRound onStep onAccepted accepted bookOf seenOf onCommit tagged
+  unfolding effect nextLine endRound withProgress withRound onStep onAccepted bookOf seenOf onCommit tagged
   lasts =
       record {
         sized = sized-after (i .sized) (commitWrites n);

@@ -17,6 +17,7 @@ use Rattle.model.specs.Layout.{present, cell, lineCell, messagePlaces, c
 use Rattle.model.specs.State.{GlobalState}
 use Rattle.model.specs.Write.{Result, writeAll}
 use Rattle.model.specs.Step.{effect}
+use Rattle.model.specs.Heard.{heard}
 use Rattle.model.specs.History.{History, onStep}
 use Rattle.model.proofs.laws.HistoryLaws.{wordOf, before, Marked}
 use Rattle.model.proofs.store.Sizes.{Sized}
@@ -104,7 +105,7 @@ EndsPlanned T = (c : ℕ) → c < T .channels → (sender T c < T .processes) ×
 
 -- a step with this result and with power keeps it
 abbrev pub KeepsBy : GlobalState → List ℕ → History → Step → Result → Type 0
-KeepsBy s st h x r = Inv (r .state) (writeAll st (r .writes)) (onStep (s .topology) x (r .outcome) h)
+KeepsBy s st h x r = Inv (r .state) (writeAll st (r .writes)) (onStep (s .topology) x (heard (r .outcome)) h)
 
 -- and so does one that loses the power after b of its writes, with the state and the histories as they were
 abbrev pub KeepsLostBy : GlobalState → List ℕ → History → Result → Type 0

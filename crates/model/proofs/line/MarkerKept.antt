@@ -11,7 +11,6 @@ use Rattle.model.specs.declared.Step.the-variants.{SendMarker}
 use Rattle.model.specs.Channel.{bodies}
 use Rattle.model.specs.State.{GlobalState}
 use Rattle.model.specs.Change.{recordSent, setEntries, withChannel, withProgress, withSent}
-use Rattle.model.specs.Outcome.{accepted}
 use Rattle.model.specs.Write.{writeAll}
 use Rattle.model.specs.Step.{effect, quietly}
 use Rattle.model.specs.History.{History, onStep, onAccepted}
@@ -73,7 +72,7 @@ module _ (s : GlobalState) (st : List ℕ) (h : History) (c : ℕ) (may : MaySen
       rw (upd-other (s .channel) c d longer n, upd-other (s .progress .sent) c d true n) (channel-in i phase d k))
 
   pub marker-kept : KeepsBy s st h (SendMarker c) (effect s (SendMarker c))
-  unfolding effect quietly recordSent setEntries withChannel withProgress withSent writeAll onStep onAccepted accepted
+  unfolding effect quietly recordSent setEntries withChannel withProgress withSent writeAll onStep onAccepted
   marker-kept =
       record {
         sized = i .sized;

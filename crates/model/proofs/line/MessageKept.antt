@@ -15,7 +15,6 @@ use Rattle.model.specs.Channel.{receiptOf}
 use Rattle.model.specs.Layout.{Log, messageLog, channelLog, messagePlaces, channelPlaces}
 use Rattle.model.specs.State.{GlobalState, raised, raisedAll}
 use Rattle.model.specs.Change.{setEntries, enterMessage, withCounts}
-use Rattle.model.specs.Outcome.{accepted}
 use Rattle.model.specs.Write.{Result, writeAll, cellWrites, appendWrites, logWrites, logsWrites}
 use Rattle.model.specs.Receive.{Reaction, logsOnly}
 use Rattle.model.specs.Step.{nextLine, react, receivedOutcome}
@@ -96,7 +95,7 @@ module _ (s : GlobalState) (st : List ℕ) (h : History) (i : Inv s st h) (ends 
     pub message-unlogged : Receives (receiving c b (process .count) (process .pending) process)
         → Leaves (leaving es arrived (channel .count) (channel .pending) channel)
         → Both s st h c (receiveBy (logsOnly []) s c (Message b u) es)
-    unfolding react logsOnly raisedAll logsWrites writeAll receivedOutcome onStep onAccepted onReceive accepted
+    unfolding react logsOnly raisedAll logsWrites writeAll receivedOutcome onStep onAccepted onReceive
     message-unlogged receives leaves =
         record { lasts = rw told (unlogged receives leaves); lost = λ x k. absurd (omega arith) }
 
@@ -106,7 +105,7 @@ module _ (s : GlobalState) (st : List ℕ) (h : History) (i : Inv s st h) (ends 
         → Leaves (leaving es arrived (channel .count) (channel .pending) channel)
         → Both s st h c (receiveBy (logsOnly (messageLog r ∷ [])) s c (Message b u) es)
     unfolding react logsOnly raisedAll raised logsWrites logWrites appendWrites cellWrites nextLine receivedOutcome
-        onStep onAccepted onReceive accepted
+        onStep onAccepted onReceive
     message-logged room receives leaves =
         let log : Log = messageLog r in
         let planned = ends c l .1 in
@@ -137,7 +136,7 @@ module _ (s : GlobalState) (st : List ℕ) (h : History) (i : Inv s st h) (ends 
         → Leaves (leaving es arrived (channel .count + 1) (loggedHeld b channel) channel)
         → Both s st h c (receiveBy (logsOnly (channelLog c ∷ [])) s c (Message b u) es)
     unfolding react logsOnly raisedAll raised logsWrites logWrites appendWrites cellWrites nextLine receivedOutcome
-        onStep onAccepted onReceive accepted
+        onStep onAccepted onReceive
     channel-logged room receives leaves =
         let log : Log = channelLog c in
         let writes = logWrites n log (s .counts .channels c) got in

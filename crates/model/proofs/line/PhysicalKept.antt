@@ -16,7 +16,6 @@ use Rattle.model.specs.Channel.{bodies, messages}
 use Rattle.model.specs.Layout.{messageLog, channelLog, entriesFrom}
 use Rattle.model.specs.State.{GlobalState, noProgress}
 use Rattle.model.specs.Change.{inPhase, withRound, withProgress}
-use Rattle.model.specs.Outcome.{accepted}
 use Rattle.model.specs.Write.{Write, writeAll, physicalWrites}
 use Rattle.model.specs.Step.{effect, nextLine, afterPhysical}
 use Rattle.model.specs.History.{History, Direction, sent, received, onStep, onAccepted}
@@ -198,7 +197,7 @@ module _ (s : GlobalState) (st : List ℕ) (h : History) (p : ℕ) (ends : EndsP
       whole-history q l = rw (process-in i phase q l .round .plain .mark)
 
   pub physical-kept : Keeps s st h (PhysicalCheckpoint p)
-  unfolding effect nextLine afterPhysical physicalWrites writeAll onStep onAccepted accepted
+  unfolding effect nextLine afterPhysical physicalWrites writeAll onStep onAccepted
   physical-kept = record { lasts = lasts; lost = lost }
     where
       lasts : KeepsBy s st h (PhysicalCheckpoint p) (effect s (PhysicalCheckpoint p))

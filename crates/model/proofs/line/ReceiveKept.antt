@@ -18,7 +18,6 @@ use Rattle.model.specs.State.{GlobalState, raisedAll}
 use Rattle.model.specs.Change.{setEntries, withChannel, enterMessage, withWord, withCounts, logicalCheckpoint}
 use Rattle.model.specs.Change.{withTag}
 use Rattle.model.specs.Change.{withProgress, withLogical, withClosed, close}
-use Rattle.model.specs.Outcome.{accepted}
 use Rattle.model.specs.Write.{writeAll, logsWrites}
 use Rattle.model.specs.Receive.{Reaction, logsOnly, reactionTo, anyFull}
 use Rattle.model.specs.Step.{effect, receive, reaction, firstReaction, react, receivedOutcome}
@@ -185,7 +184,7 @@ module _ (s : GlobalState) (st : List ℕ) (h : History) (c : ℕ) (l : c < s .t
 
         before-new : Kept (reaction s c (Message b u)) (Message b u) es
         unfolding reaction reactionTo react raisedAll logsWrites writeAll receivedOutcome onStep onAccepted onReceive
-            accepted logicalCheckpoint withTag withProgress withLogical withCounts setEntries withChannel enterMessage
+            logicalCheckpoint withTag withProgress withLogical withCounts setEntries withChannel enterMessage
             withWord
         before-new =
             reacts {x = record { logicalFirst = true; closes = false; logs = [] }} (Message b u) es (rw (phase, e, q))
@@ -209,7 +208,7 @@ module _ (s : GlobalState) (st : List ℕ) (h : History) (c : ℕ) (l : c < s .t
   module _ (es : List Entry) (first : s .channel c ≡ Marker ∷ es) (phase : s .round .phase ≡ Logical) where
     marker : Tested (s .progress .logical r) → Kept (reaction s c Marker) Marker es
     unfolding reaction reactionTo react raisedAll logsWrites writeAll receivedOutcome onStep onAccepted onReceive
-        accepted logicalCheckpoint withTag withProgress withLogical withClosed withCounts setEntries withChannel close
+        logicalCheckpoint withTag withProgress withLogical withClosed withCounts setEntries withChannel close
         enterMessage
         bookOf
         markUnmarked

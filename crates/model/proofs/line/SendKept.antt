@@ -8,7 +8,6 @@ use Rattle.model.specs.declared.Step.the-variants.{Send}
 use Rattle.model.specs.Topology.{sender, receiver}
 use Rattle.model.specs.State.{GlobalState}
 use Rattle.model.specs.Change.{setEntries, withChannel}
-use Rattle.model.specs.Outcome.{accepted}
 use Rattle.model.specs.Write.{writeAll}
 use Rattle.model.specs.Step.{effect, quietly}
 use Rattle.model.specs.History.{Event, History, sent, received, addEvent, onStep, onAccepted}
@@ -71,6 +70,6 @@ module _ (s : GlobalState) (st : List ℕ) (h : History) (c b : ℕ) (l : c < s 
       (i .channels d k))
 
   pub send-kept : KeepsBy s st h (Send c b) (effect s (Send c b))
-  unfolding effect quietly setEntries withChannel writeAll onStep onAccepted accepted
+  unfolding effect quietly setEntries withChannel writeAll onStep onAccepted
   send-kept =
       record { sized = i .sized; stored = i .stored; tag = i .tag; processes = processes; channels = channels }

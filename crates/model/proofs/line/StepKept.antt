@@ -2,7 +2,6 @@
 -- for: the invariant holds whatever the rule for it.
 use Prim.Native.Nat.{ℕ}
 use mathlib.Core.Path.{_≡_, refl, sym, ap, subst}
-use mathlib.Core.Bool.{false}
 use mathlib.Core.List.{List, []}
 use mathlib.Core.Option.{none}
 use lib.ListN.{length}
@@ -13,7 +12,8 @@ use Rattle.model.specs.declared.Step.the-variants.{Send, Receive, Begin,
 use Rattle.model.specs.declared.Step.the-variants.{LogicalCheckpoint, SendMarker, Commit, Abort}
 use Rattle.model.specs.Topology.{topologyRefusal}
 use Rattle.model.specs.State.{GlobalState}
-use Rattle.model.specs.Outcome.{Said, refused, cut, accepted}
+use Rattle.model.specs.Outcome.{refused}
+use Rattle.model.specs.Heard.{heard}
 use Rattle.model.specs.Write.{Answered, Result, writeAll, underBudget}
 use Rattle.model.specs.Step.{logChecks, effect, quietly, step, answer}
 use Rattle.model.specs.History.{History, onStep, onAccepted}
@@ -43,7 +43,7 @@ module _ (s : GlobalState) (st : List ℕ) (h : History) (i : Inv s st h) where
   -- an accepted step
   accepted-kept : (x : Step) → EndsPlanned (s .topology) → Fits (s .topology) (s .counts) → Prior s x
       → Passed (logChecks s x) → Keeps s st h x
-  unfolding logChecks effect quietly writeAll onStep onAccepted accepted
+  unfolding logChecks effect quietly writeAll onStep onAccepted
   accepted-kept (Send c b) ends f p q = quiet-kept (Send c b) refl (send-kept s st h c b p ends i)
   accepted-kept (Receive c) ends f p q = receive-kept s st h c (p .planned) ends f i (p .entry) (q .0)
   accepted-kept Begin ends f p q = begin-kept s st h (p .idle) i
@@ -57,25 +57,20 @@ module _ (s : GlobalState) (st : List ℕ) (h : History) (i : Inv s st h) where
 
   -- the invariant after an answer
   abbrev After : Step → Answered → Type 0
-  After x a = Inv (a .state) (a .store) (onStep (s .topology) x (a .outcome) h)
+  After x a = Inv (a .state) (a .store) (onStep (s .topology) x (heard (a .outcome)) h)
 
-  -- a call that is not accepted tells the histories nothing
-  unheard : (x : Step) (o : Said) (y : List ℕ) → accepted o ≡ false → Inv s y h
-      → Inv s y (onStep (s .topology) x o h)
-  unfolding onStep
-  unheard x o y e k = rw e k
-
+  -- of a call that is not accepted the histories hear nothing
   pub step-kept : (x : Step) (budget : ℕ) → After x (answer s x st budget)
-  unfolding answer quietly accepted writeAll
+  unfolding answer quietly writeAll onStep
   step-kept x budget = go (step-cases s (length st) x)
     where
       refused-kept : (r : ℕ) → Powered budget s st (quietly (refused r) s)
           → After x (underBudget budget s st (quietly (refused r) s))
       refused-kept r (lost l q) = absurd (omega arith)
-      refused-kept r (lasts l q) = subst (After x) (sym q) (unheard x (refused r) st refl i)
+      refused-kept r (lasts l q) = subst (After x) (sym q) i
 
       powered : Keeps s st h x → Powered budget s st (effect s x) → After x (underBudget budget s st (effect s x))
-      powered kept (lost l q) = subst (After x) (sym q) (unheard x cut _ refl (kept .lost budget l))
+      powered kept (lost l q) = subst (After x) (sym q) (kept .lost budget l)
       powered kept (lasts l q) = subst (After x) (sym q) (kept .lasts)
 
       go : Stepped s (length st) x → After x (underBudget budget s st (step s (length st) x))

@@ -91,7 +91,6 @@ module _ (e : tie.Else2) where
   receiver-within = receiver-bound _ (given .pre) _ (planned e .if1 .left)
 
 returns-3 : tie.Need-returns-3
-unfolding says.accepted
 returns-3 c =
     let pushed = c .before in
     let e = pushed .before .before .before in
