@@ -10,10 +10,10 @@ use Rattle.model.specs.declared.Answer.{Answer}
 use Rattle.model.specs.declared.Started.{Started}
 use Rattle.model.specs.State.{view}
 use Rattle.model.specs.Outcome.{startRefusal}
-use Rattle.model.specs.Start.{Startup, initialize, recover, recoverSaid, lineOr, stateOr}
+use Rattle.model.specs.Start.{Startup, initialize, recover, recoverSaid, stateOr}
 use Rattle.model.specs.History.{History, newHistory, onRecover}
-use Rattle.model.specs.Run.{Call, call, recovery, World, next, run, firstWorld, replyTo, onReply, onCall, commitsAfter}
-use Rattle.model.specs.Run.{stateAfter, storeAfter, countCommit, isCommit}
+use Rattle.model.specs.Run.{Call, call, recovery, World, next, run, firstWorld, replyTo, onReply, commitsAfter}
+use Rattle.model.specs.Run.{stateAfter, storeAfter}
 use Rattle.model.specs.Demand3.{Recovered, RecoveredAfter}
 use Rattle.model.specs.Reached.{Reached}
 use Rattle.model.proofs.Trace.{run-append}
@@ -21,8 +21,8 @@ use Rattle.model.proofs.Demand3.{demand-3}
 use Rattle.model.proofs.Reached.{reached}
 use Rattle.engine.specs.Answers.{Answers}
 use Rattle.recovery.specs.Starts.{Starts}
-use Rattle.engine.specs.Runs.{Runs, initialized, stepped, recovered, startupOf, stepReply, Demand3OfCode}
-use Rattle.engine.specs.Runs.{CompanionOfCode}
+use Rattle.engine.specs.Runs.{Runs, initialized, stepped, recovered, startupOf, stepReply, recoverReply}
+use Rattle.engine.specs.Runs.{Demand3OfCode, CompanionOfCode}
 
 -- the same world, reached by calls of the definitions
 pub record Replayed (T : Topology) (w : World) : Type 0 where
@@ -75,11 +75,14 @@ module _ (T : Topology) where
         subst (Replayed T) (rw (meets .state, meets .store, meets .outcome, meets .made)) (more i (call x budget))
 
     after-recover : (r : Started) → Starts (recover T store) r store
-        → Replayed T (worldOf (r .state) store (onRecover h) commits)
-    unfolding next replyTo onReply onCall commitsAfter countCommit isCommit stateAfter storeAfter recoverSaid lineOr
-        stateOr
+        → let reply = recoverReply r store in
+        let state = stateOr (startRefusal (r .start)) (r .state) s in
+        Replayed T (worldOf state store (onReply T reply h) (commitsAfter reply commits))
+    unfolding next replyTo stateAfter storeAfter recoverSaid stateOr startupOf
     after-recover r meets =
-        subst (Replayed T) (rw (recovers i .accepted, ← meets .state, ← meets .store)) (more i recovery)
+        subst (Replayed T)
+        (rw (meets .start ∙ recovers i .accepted, recovers i .accepted, ← meets .state, ← meets .store))
+        (more i recovery)
 
   pub replayed : {s : State} {store : List ℕ} {h : History} {commits : ℕ} → Runs T s store h commits
       → Replayed T (worldOf s store h commits)

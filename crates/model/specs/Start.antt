@@ -9,7 +9,7 @@ use Rattle.model.specs.declared.Entry.{Entry}
 use Rattle.model.specs.Notation.{tabulate, concatBelow}
 use Rattle.model.specs.Outcome.{Said, line, refused}
 use Rattle.model.specs.Layout.{present, physicalCell, Log, messageLog, channelLog, countCell}
-use Rattle.model.specs.State.{GlobalState, idleState}
+use Rattle.model.specs.State.{idleState}
 use Rattle.model.specs.Write.{Write, writeAll, commitWrites}
 use Rattle.model.specs.Recover as recovery
 pub use Rattle.model.specs.Recover.{Startup}
@@ -67,7 +67,7 @@ lineOr (some n) k = refused n
 unfoldable pub recoverSaid : Startup → Said
 recoverSaid r = lineOr (r .refusal) (r .state .round .line)
 
--- the state after a recover: its own, or the state as it was where it is refused
-unfoldable pub stateOr : Option ℕ → GlobalState → GlobalState → GlobalState
+-- the state after a recover, the definitions' or the code's: its own, or the state as it was where it is refused
+unfoldable pub stateOr : {A : Type 0} → Option ℕ → A → A → A
 stateOr none after before = after
 stateOr (some n) after before = before
