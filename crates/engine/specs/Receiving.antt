@@ -12,7 +12,7 @@ use Rattle.model.specs.declared.Receipt.{Receipt}
 use Rattle.model.specs.declared.Entry.{Entry}
 use Rattle.model.specs.declared.Entry.the-variants.{Message, Marker}
 use Rattle.model.specs.Notation.{upd}
-use Rattle.model.specs.Check.{Check, _⇒_, firstRefusal}
+use Rattle.model.specs.Check.{Check, _gives_, firstRefusal}
 use Rattle.model.specs.Word.{receipt, enter}
 use Rattle.model.specs.Topology.{processLimit, channelLimit}
 use Rattle.model.specs.Channel.{receiptOf}
@@ -47,7 +47,7 @@ full x a = anyFull (countsIn a) (logsOf x a)
 -- refusals 10, 14 and 11
 abbrev pub receiveChecks : Reaction → Setting → List Check
 receiveChecks x a =
-    (eqb (a .entries) 0 ⇒ 10) ∷ ((x .closes && a .closed) ⇒ 14) ∷ (full x a ⇒ 11) ∷ []
+    (eqb (a .entries) 0 gives 10) ∷ ((x .closes && a .closed) gives 14) ∷ (full x a gives 11) ∷ []
 
 -- what a receipt writes, for the line after this one
 abbrev pub receiptWrites : Reaction → Setting → ℕ → Receipt → List Write

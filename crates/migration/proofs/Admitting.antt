@@ -10,7 +10,7 @@ use borrow.Author.Tests.{ltb-false}
 use Rattle.model.specs.declared.Topology.{Topology}
 use Rattle.model.specs.declared.Verdict.{Verdict}
 use Rattle.model.specs.Outcome.{refusalOf}
-use Rattle.model.specs.Check.{Check, _⇒_, firstRefusal}
+use Rattle.model.specs.Check.{Check, _gives_, firstRefusal}
 use Rattle.model.specs.Topology.{topologyRefusal}
 use Rattle.model.specs.Form.{Form, storeCells}
 use Rattle.model.specs.Recover.{recoverRefusal}
@@ -31,7 +31,7 @@ pub ready : (F G : Form) (T : Topology) (source target : List ℕ)
     → carryRefusal F G T source (length target) ≡ none → Ready F G T source target
 unfolding carryRefusal
 ready F G T source target e =
-    let check : List Check = (ltb (length target) (storeCells G) ⇒ 6) ∷ [] in
+    let check : List Check = (ltb (length target) (storeCells G) gives 6) ∷ [] in
     let (accepted, long) = or-else-none (recoverRefusal F T source) (firstRefusal check) e in
     let known = readable F T source accepted in
     record {

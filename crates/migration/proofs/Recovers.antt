@@ -3,13 +3,13 @@ use Prim.Native.Nat.{ℕ, _+_, _<_, _≤_}
 use mathlib.Core.Path.{_≡_, refl, sym, ap, fun-ext, _∙_}
 use mathlib.Core.Bool.{Bool, true, false, cond}
 use mathlib.Core.List.{List, []}
-use mathlib.Core.Option.{none}
+use mathlib.Core.Option.{none, orElse}
 use lib.ListN.{length, getD}
 use lib.Dec.{ltb}
 use borrow.Author.Tests.{ltb-true, le-leb, le-ltb}
 use native.Mathlib.Omega.{arith}
 use Rattle.model.specs.declared.Topology.{Topology}
-use Rattle.model.specs.Notation.{tabulate, orElse}
+use Rattle.model.specs.Notation.{tabulate}
 use Rattle.model.specs.Check.{firstRefusal}
 use Rattle.model.specs.Topology.{hasProcess, hasChannel}
 use Rattle.model.specs.Word.{replayBy}

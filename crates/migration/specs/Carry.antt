@@ -2,12 +2,12 @@
 -- and the target is another slice."
 use Prim.Native.Nat.{ℕ, _+_}
 use mathlib.Core.List.{List, [], _∷_, _++_}
-use mathlib.Core.Option.{Option, none, some}
+use mathlib.Core.Option.{Option, none, some, orElse}
 use lib.ListN.{length}
 use lib.Dec.{ltb}
 use Rattle.model.specs.declared.Topology.{Topology}
-use Rattle.model.specs.Notation.{concatBelow, orElse}
-use Rattle.model.specs.Check.{_⇒_, firstRefusal}
+use Rattle.model.specs.Notation.{concatBelow}
+use Rattle.model.specs.Check.{_gives_, firstRefusal}
 use Rattle.model.specs.Form.{Form, messageLog, channelLog, storeCells, physicalCell, countCell, logged}
 use Rattle.model.specs.Write.{Write, writeAll, cellWrites, commitWrites}
 use Rattle.model.specs.Recover.{storedLine, recoverRefusal, restored}
@@ -41,7 +41,7 @@ carryWrites F G T source =
 -- "Refusals 1 to 6 and 16 apply to the source, then 6 to the target.", which has so many cells
 unfoldable pub carryRefusal : Form → Form → Topology → List ℕ → ℕ → Option ℕ
 carryRefusal F G T source cells =
-    orElse (recoverRefusal F T source) (firstRefusal ((ltb cells (storeCells G) ⇒ 6) ∷ []))
+    orElse (recoverRefusal F T source) (firstRefusal ((ltb cells (storeCells G) gives 6) ∷ []))
 
 -- the number that it is refused with, if it is, and what the target then holds
 pub record Carried : Type 0 where

@@ -3,12 +3,11 @@
 use Prim.Native.Nat.{ℕ, _+_, _*_, _<_, _≤_}
 use mathlib.Core.Path.{_≡_}
 use mathlib.Core.List.{List, [], _∷_, map}
-use mathlib.Core.Option.{Option, none}
+use mathlib.Core.Option.{Option, none, orElse}
 use lib.ListN.{length}
 use lib.Dec.{ltb}
 use Rattle.model.specs.declared.Topology.{Topology}
-use Rattle.model.specs.Notation.{orElse}
-use Rattle.model.specs.Check.{_⇒_, firstRefusal}
+use Rattle.model.specs.Check.{_gives_, firstRefusal}
 use Rattle.model.specs.Word.{replayBy}
 use Rattle.model.specs.Form as model
 use Rattle.model.specs.Form.{cell, channelPlaces, channelEntryCells, entriesFrom, receiptIn, bodyIn}
@@ -24,7 +23,7 @@ formOf Present = present
 
 -- the refusal found before, or 6 where so many cells are fewer than the form's
 abbrev pub lengthRefusal : Option ℕ → model.Form → ℕ → Option ℕ
-lengthRefusal found F cells = orElse found (firstRefusal ((ltb cells (model.storeCells F) ⇒ 6) ∷ []))
+lengthRefusal found F cells = orElse found (firstRefusal ((ltb cells (model.storeCells F) gives 6) ∷ []))
 
 -- nothing is refused
 abbrev pub Admitted : Topology → Form → List ℕ → Form → List ℕ → Type 0

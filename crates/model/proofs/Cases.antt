@@ -2,6 +2,7 @@
 -- by computation.
 use mathlib.Core.Path.{_≡_, refl}
 use mathlib.Core.List.{map}
+use mathlib.Core.Option.{orElse}
 use Rattle.model.specs.Notation as notation
 use Rattle.model.specs.Check as check
 use Rattle.model.specs.Word as word
@@ -26,7 +27,7 @@ use Rattle.model.specs.Cases as cases
 
 pub starred-hold : map (λ (c : cases.Case). c .got) cases.starred ≡ map (λ (c : cases.Case). c .expected) cases.starred
 unfolding
-    notation.upd notation.tabulate notation.concatBelow notation.orElse notation.firstBelow notation.allBelow
+    notation.upd notation.tabulate notation.concatBelow orElse notation.firstBelow notation.allBelow
     notation.allTrue
     check.firstRefusal check.accepts
     word.replayBy

@@ -4,13 +4,12 @@ use Prim.Native.Nat.{ℕ}
 use mathlib.Core.Path.{_≡_, refl}
 use mathlib.Core.Bool.{true}
 use mathlib.Core.List.{List, [], _∷_}
-use mathlib.Core.Option.{some}
+use mathlib.Core.Option.{some, orElse}
 use lib.ListN.{length}
 use Rattle.model.specs.declared.Topology.{Topology}
 use Rattle.model.specs.declared.Step.{Step}
 use Rattle.model.specs.declared.Step.the-variants.{Send, Receive, Begin, PhysicalCheckpoint, LogicalCheckpoint}
 use Rattle.model.specs.declared.Step.the-variants.{SendMarker, Commit, Abort}
-use Rattle.model.specs.Notation.{orElse}
 use Rattle.model.specs.Topology.{sizeChecks, channelChecks, sizeRefusal, topologyRefusal}
 use Rattle.model.specs.State.{GlobalState}
 use Rattle.model.specs.Step.{priorChecks, roomChecks, logChecks, ownChecks, stepChecks}

@@ -8,9 +8,9 @@ pub record Check : Type 0 where
   pub fails : Bool
   pub refusal : ℕ
 
-infix 20 _⇒_
-abbrev pub _⇒_ : Bool → ℕ → Check
-t ⇒ n = record { fails = t; refusal = n }
+infix 20 _gives_
+abbrev pub _gives_ : Bool → ℕ → Check
+t gives n = record { fails = t; refusal = n }
 
 -- the refusal of the first check that fails, in the list's order
 unfoldable pub firstRefusal : List Check → Option ℕ

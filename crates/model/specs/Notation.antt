@@ -1,9 +1,9 @@
 -- Notation that the definitions share, of functions, lists and tests alone: a function changed at one index, a list
--- from a function, a test of every number below a bound, and the first of several things that are there.
+-- from a function, a test of every number below a bound, and the first of several things that is there.
 use Prim.Native.Nat.{ℕ, zero, suc}
 use mathlib.Core.Bool.{Bool, true, cond, _&&_}
 use mathlib.Core.List.{List, [], _∷_, _++_}
-use mathlib.Core.Option.{Option, none, some}
+use mathlib.Core.Option.{Option, none, orElse}
 use lib.Dec.{eqb}
 
 module _ {ℓ} {A : Type ℓ} where
@@ -20,11 +20,6 @@ module _ {ℓ} {A : Type ℓ} where
   unfoldable pub concatBelow : ℕ → (ℕ → List A) → List A
   concatBelow zero f = []
   concatBelow (suc n) f = concatBelow n f ++ f n
-
-  -- the first of two that is there
-  unfoldable pub orElse : Option A → Option A → Option A
-  orElse none b = b
-  orElse (some a) b = some a
 
   -- what the smallest number below n has that has something
   unfoldable pub firstBelow : ℕ → (ℕ → Option A) → Option A

@@ -3,15 +3,15 @@
 use Prim.Native.Nat.{ℕ, zero, suc, _+_, _*_}
 use mathlib.Core.Bool.{Bool, true, false, cond}
 use mathlib.Core.List.{List, [], _∷_}
-use mathlib.Core.Option.{Option, none, some}
+use mathlib.Core.Option.{Option, none, some, orElse}
 use lib.ListN.{length, getD, take, drop, replicate}
 use lib.Dec.{ltb}
 use Rattle.model.specs.declared.Topology.{Topology}
 use Rattle.model.specs.declared.Record.{Record}
 use Rattle.model.specs.declared.Record.the-variants.{Call, Recover}
-use Rattle.model.specs.Notation.{tabulate, orElse}
+use Rattle.model.specs.Notation.{tabulate}
 use Rattle.model.specs.Outcome.{Said, refused}
-use Rattle.model.specs.Check.{_⇒_, firstRefusal}
+use Rattle.model.specs.Check.{_gives_, firstRefusal}
 use Rattle.model.specs.Topology.{channelLimit, topologyRefusal, sizeRefusal}
 use Rattle.model.specs.Channel.{bodies}
 use Rattle.model.specs.Layout.{storeCells}
@@ -44,9 +44,9 @@ planLength bytes = 2 + 2 * getD bytes 1 0
 -- "The plan's checks run: under two bytes 7; 1; 2; wires broken off 7;": what its sizes tell
 unfoldable pub shapeRefusal : List ℕ → Option ℕ
 shapeRefusal bytes =
-    orElse (firstRefusal ((ltb (length bytes) 2 ⇒ 7) ∷ []))
+    orElse (firstRefusal ((ltb (length bytes) 2 gives 7) ∷ []))
     (orElse (sizeRefusal (getD bytes 0 0) (getD bytes 1 0))
-    (firstRefusal ((ltb (length bytes) (planLength bytes) ⇒ 7) ∷ [])))
+    (firstRefusal ((ltb (length bytes) (planLength bytes) gives 7) ∷ [])))
 
 -- then "3 to 5", for which the topology's checks stand
 unfoldable pub planRefusal : List ℕ → Option ℕ

@@ -3,13 +3,13 @@
 use Prim.Native.Nat.{ℕ}
 use mathlib.Core.Bool.{Bool, false, cond, not, _&&_}
 use mathlib.Core.List.{List, [], _∷_}
-use mathlib.Core.Option.{Option, none, some}
+use mathlib.Core.Option.{Option, none, some, orElse}
 use lib.ListN.{length}
 use lib.Dec.{leb, ltb}
 use Rattle.model.specs.declared.Topology.{Topology}
 use Rattle.model.specs.declared.Entry.{Entry}
-use Rattle.model.specs.Notation.{allBelow, orElse}
-use Rattle.model.specs.Check.{_⇒_, firstRefusal}
+use Rattle.model.specs.Notation.{allBelow}
+use Rattle.model.specs.Check.{_gives_, firstRefusal}
 use Rattle.model.specs.Word.{replayBy}
 use Rattle.model.specs.Topology.{topologyRefusal, hasProcess, hasChannel}
 use Rattle.model.specs.Channel.{messages}
@@ -35,7 +35,7 @@ storedLine store = cell store lineCell
 module _ (F : Form) where
   -- 1 to 5, then "6 store under [the form's] cells."
   unfoldable pub initializeRefusal : Topology → ℕ → Option ℕ
-  initializeRefusal T cells = orElse (topologyRefusal T) (firstRefusal ((ltb cells (storeCells F) ⇒ 6) ∷ []))
+  initializeRefusal T cells = orElse (topologyRefusal T) (firstRefusal ((ltb cells (storeCells F) gives 6) ∷ []))
 
   -- a log for line n has no more entries, by the store, than it has places
   unfoldable pub countFits : List ℕ → ℕ → Log → Bool
@@ -49,7 +49,7 @@ module _ (F : Form) where
 
   unfoldable pub recoverRefusal : Topology → List ℕ → Option ℕ
   recoverRefusal T store =
-      orElse (initializeRefusal T (length store)) (firstRefusal ((not (countsFit T store) ⇒ 16) ∷ []))
+      orElse (initializeRefusal T (length store)) (firstRefusal ((not (countsFit T store) gives 16) ∷ []))
 
   -- what the slot for line n makes of process p, with the first k entries of its message log: "words by replaying board
   -- logs on copies"

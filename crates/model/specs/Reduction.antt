@@ -3,14 +3,13 @@
 use Prim.Native.Nat.{ℕ, _+_, _-_, _<_}
 use mathlib.Core.Path.{_≡_}
 use mathlib.Core.List.{List, [], _∷_, _++_, map}
-use mathlib.Core.Option.{Option, none, some}
+use mathlib.Core.Option.{Option, none, some, orElse}
 use lib.ListN.{length, getD, take, drop}
 use lib.Dec.{ltb}
 use Rattle.model.specs.declared.Topology.{Topology}
 use Rattle.model.specs.declared.Record.{Record}
 use Rattle.model.specs.declared.Record.the-variants.{Recover}
-use Rattle.model.specs.Notation.{orElse}
-use Rattle.model.specs.Check.{_⇒_, firstRefusal}
+use Rattle.model.specs.Check.{_gives_, firstRefusal}
 use Rattle.model.specs.Topology.{topologyRefusal}
 use Rattle.model.specs.CallList.{listLimit, Failure, firstFailure}
 
@@ -47,7 +46,7 @@ pub data Sought : Type 0 where
 
 -- "18, the list is longer than 256, looked at first; then 1 to 5"
 unfoldable pub listRefusal : Topology → List Record → Option ℕ
-listRefusal T calls = orElse (firstRefusal ((ltb listLimit (length calls) ⇒ 18) ∷ [])) (topologyRefusal T)
+listRefusal T calls = orElse (firstRefusal ((ltb listLimit (length calls) gives 18) ∷ [])) (topologyRefusal T)
 
 -- "17, no step is refused, last."
 unfoldable pub soughtBy : Option ℕ → Option Failure → Sought

@@ -13,7 +13,7 @@ use Rattle.model.specs.declared.Step.the-variants.{Send, Receive, Begin,
 use Rattle.model.specs.declared.Step.the-variants.{LogicalCheckpoint, SendMarker, Commit, Abort}
 use Rattle.model.specs.Notation.{allBelow}
 use Rattle.model.specs.Outcome.{Said, done, sent, took, note, refused}
-use Rattle.model.specs.Check.{Check, _⇒_, firstRefusal}
+use Rattle.model.specs.Check.{Check, _gives_, firstRefusal}
 use Rattle.model.specs.Topology.{sender, receiver, hasProcess, hasChannel}
 use Rattle.model.specs.Channel.{roomLeft, noRoomForMessage, noRoomForMarker, noEntry, receiptOf}
 use Rattle.model.specs.Phase.{isIdle, isLogical, isNext}
@@ -61,38 +61,38 @@ markerOnClosed s c = firstReaction s c (s .channel c) .closes && s .progress .cl
 -- now, by the conditions above; 13 begin with k = 4,294,967,295; 10 wire empty; 14 in marking, a note taken on a closed
 -- wire.
 unfoldable pub priorChecks : GlobalState → Step → List Check
-priorChecks s (Send c b) = (not (hasChannel (s .topology) c) ⇒ 8) ∷ []
+priorChecks s (Send c b) = (not (hasChannel (s .topology) c) gives 8) ∷ []
 priorChecks s (Receive c) =
-    (not (hasChannel (s .topology) c) ⇒ 8)
-    ∷ (noEntry (s .channel c) ⇒ 10)
-    ∷ (markerOnClosed s c ⇒ 14)
+    (not (hasChannel (s .topology) c) gives 8)
+    ∷ (noEntry (s .channel c) gives 10)
+    ∷ (markerOnClosed s c gives 14)
     ∷ []
 priorChecks s Begin =
-    (not (isIdle (s .round .phase)) ⇒ 12) ∷ (eqb (s .round .line) lastLine ⇒ 13) ∷ []
+    (not (isIdle (s .round .phase)) gives 12) ∷ (eqb (s .round .line) lastLine gives 13) ∷ []
 priorChecks s (PhysicalCheckpoint p) =
-    (not (hasProcess (s .topology) p) ⇒ 8) ∷ (not (isNext (s .round .phase) p) ⇒ 12) ∷ []
+    (not (hasProcess (s .topology) p) gives 8) ∷ (not (isNext (s .round .phase) p) gives 12) ∷ []
 priorChecks s (LogicalCheckpoint p) =
-    (not (hasProcess (s .topology) p) ⇒ 8) ∷ (not (mayCheckpointLogically s p) ⇒ 12) ∷ []
+    (not (hasProcess (s .topology) p) gives 8) ∷ (not (mayCheckpointLogically s p) gives 12) ∷ []
 priorChecks s (SendMarker c) =
-    (not (hasChannel (s .topology) c) ⇒ 8) ∷ (not (maySendMarker s c) ⇒ 12) ∷ []
-priorChecks s Commit = (not (mayCommit s) ⇒ 12) ∷ []
-priorChecks s Abort = (isIdle (s .round .phase) ⇒ 12) ∷ []
+    (not (hasChannel (s .topology) c) gives 8) ∷ (not (maySendMarker s c) gives 12) ∷ []
+priorChecks s Commit = (not (mayCommit s) gives 12) ∷ []
+priorChecks s Abort = (isIdle (s .round .phase) gives 12) ∷ []
 
 -- "9 wire holds 8 entries"
 unfoldable pub roomChecks : GlobalState → Step → List Check
-roomChecks s (Send c b) = (noRoomForMessage (s .channel c) ⇒ 9) ∷ []
+roomChecks s (Send c b) = (noRoomForMessage (s .channel c) gives 9) ∷ []
 roomChecks s (Receive c) = []
 roomChecks s Begin = []
 roomChecks s (PhysicalCheckpoint p) = []
 roomChecks s (LogicalCheckpoint p) = []
-roomChecks s (SendMarker c) = (noRoomForMarker (s .channel c) ⇒ 9) ∷ []
+roomChecks s (SendMarker c) = (noRoomForMarker (s .channel c) gives 9) ∷ []
 roomChecks s Commit = []
 roomChecks s Abort = []
 
 -- "11 the log needed is full"
 unfoldable pub logChecks : GlobalState → Step → List Check
 logChecks s (Send c b) = []
-logChecks s (Receive c) = (anyFull (s .counts) (firstReaction s c (s .channel c) .logs) ⇒ 11) ∷ []
+logChecks s (Receive c) = (anyFull (s .counts) (firstReaction s c (s .channel c) .logs) gives 11) ∷ []
 logChecks s Begin = []
 logChecks s (PhysicalCheckpoint p) = []
 logChecks s (LogicalCheckpoint p) = []
@@ -106,7 +106,7 @@ ownChecks s x = priorChecks s x ++ (roomChecks s x ++ logChecks s x)
 
 -- "Order for steps: 15, 6, 8, 12, 13, 10, 14, 9, 11." cells is the number of the store's cells.
 unfoldable pub stepChecks : GlobalState → ℕ → Step → List Check
-stepChecks s cells x = (not (sound s) ⇒ 15) ∷ (ltb cells storeCells ⇒ 6) ∷ ownChecks s x
+stepChecks s cells x = (not (sound s) gives 15) ∷ (ltb cells storeCells gives 6) ∷ ownChecks s x
 
 -- the line that the round under way is for: "A round writes into the half for line k + 1, k being the state's."
 unfoldable pub nextLine : GlobalState → ℕ

@@ -2,12 +2,12 @@
 use Prim.Native.Nat.{ℕ}
 use mathlib.Core.Bool.{Bool, not, _&&_}
 use mathlib.Core.List.{List, [], _∷_}
-use mathlib.Core.Option.{Option}
+use mathlib.Core.Option.{Option, orElse}
 use lib.ListN.{getD}
 use lib.Dec.{leb, ltb, eqb}
 use Rattle.model.specs.declared.Topology.{Topology}
-use Rattle.model.specs.Notation.{allBelow, firstBelow, orElse}
-use Rattle.model.specs.Check.{Check, _⇒_, firstRefusal}
+use Rattle.model.specs.Notation.{allBelow, firstBelow}
+use Rattle.model.specs.Check.{Check, _gives_, firstRefusal}
 
 -- "a plan has 1 to 16" boards, and "0 to 64" wires
 abbrev pub processLimit : ℕ
@@ -38,9 +38,9 @@ sameEnds T d c = eqb (sender T d) (sender T c) && eqb (receiver T d) (receiver T
 -- direction."
 abbrev pub channelChecks : Topology → ℕ → List Check
 channelChecks T c =
-    (not (hasProcess T (sender T c) && hasProcess T (receiver T c)) ⇒ 3)
-    ∷ (eqb (sender T c) (receiver T c) ⇒ 4)
-    ∷ (not (allBelow c (λ d. not (sameEnds T d c))) ⇒ 5)
+    (not (hasProcess T (sender T c) && hasProcess T (receiver T c)) gives 3)
+    ∷ (eqb (sender T c) (receiver T c) gives 4)
+    ∷ (not (allBelow c (λ d. not (sameEnds T d c))) gives 5)
     ∷ []
 
 unfoldable pub channelRefusal : Topology → ℕ → Option ℕ
@@ -49,7 +49,7 @@ channelRefusal T c = firstRefusal (channelChecks T c)
 -- "1 boards not 1 to 16. 2 over 64 wires."
 abbrev pub sizeChecks : ℕ → ℕ → List Check
 sizeChecks processes channels =
-    (not (leb 1 processes && leb processes processLimit) ⇒ 1) ∷ (ltb channelLimit channels ⇒ 2) ∷
+    (not (leb 1 processes && leb processes processLimit) gives 1) ∷ (ltb channelLimit channels gives 2) ∷
     []
 
 unfoldable pub sizeRefusal : ℕ → ℕ → Option ℕ

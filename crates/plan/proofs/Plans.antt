@@ -2,14 +2,14 @@
 use Prim.Native.Nat.{ℕ, _+_, _*_, _≤_, _<_}
 use mathlib.Core.Path.{_≡_, refl, sym, ap, _∙_}
 use mathlib.Core.List.{List, [], _∷_}
-use mathlib.Core.Option.{none}
+use mathlib.Core.Option.{none, orElse}
 use lib.ListN.{length, getD, set, replicate, length-set}
 use lib.Dec.{ltb}
 use lib.Seq.{ext-getD}
 use borrow.Author.Tests.{ltb-false}
 use native.Mathlib.Omega.{arith}
-use Rattle.model.specs.Notation.{tabulate, orElse}
-use Rattle.model.specs.Check.{Check, _⇒_, firstRefusal}
+use Rattle.model.specs.Notation.{tabulate}
+use Rattle.model.specs.Check.{Check, _gives_, firstRefusal}
 use Rattle.model.specs.Topology.{channelLimit, sizeRefusal}
 use Rattle.model.specs.Program.{endByte, planLength, shapeRefusal}
 use Rattle.model.proofs.laws.Functions.{seen-replicate, filledBelow, filled-none, filled-more}
@@ -25,8 +25,8 @@ pub record Whole (bytes : List ℕ) : Type 0 where
 pub whole : (bytes : List ℕ) → shapeRefusal bytes ≡ none → Whole bytes
 unfolding shapeRefusal planLength
 whole bytes e =
-    let short : List Check = (ltb (length bytes) 2 ⇒ 7) ∷ [] in
-    let broken : List Check = (ltb (length bytes) (planLength bytes) ⇒ 7) ∷ [] in
+    let short : List Check = (ltb (length bytes) 2 gives 7) ∷ [] in
+    let broken : List Check = (ltb (length bytes) (planLength bytes) gives 7) ∷ [] in
     let size = sizeRefusal (getD bytes 0 0) (getD bytes 1 0) in
     let (_, later) = or-else-none (firstRefusal short) (orElse size (firstRefusal broken)) e in
     let (few, long) = or-else-none size (firstRefusal broken) later in

@@ -1,6 +1,7 @@
 -- The examples hold of the definitions: one fact over the table, by computation.
 use mathlib.Core.Path.{_≡_, refl}
 use mathlib.Core.List.{map}
+use mathlib.Core.Option.{orElse}
 use Rattle.model.specs.Notation as notation
 use Rattle.model.specs.Check as check
 use Rattle.model.specs.Word as word
@@ -26,7 +27,7 @@ use Rattle.report.specs.Examples as examples
 pub examples-hold : map (λ (e : examples.Example). e .got) examples.examples
     ≡ map (λ (e : examples.Example). e .expected) examples.examples
 unfolding
-    notation.upd notation.tabulate notation.concatBelow notation.orElse notation.firstBelow
+    notation.upd notation.tabulate notation.concatBelow orElse notation.firstBelow
     notation.allBelow notation.allTrue
     check.firstRefusal check.accepts
     word.replayBy

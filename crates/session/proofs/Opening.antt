@@ -3,12 +3,11 @@
 use Prim.Native.Nat.{ℕ, _+_, _*_, _≤_}
 use mathlib.Core.Path.{_≡_}
 use mathlib.Core.List.{List}
-use mathlib.Core.Option.{none, some}
+use mathlib.Core.Option.{none, some, orElse}
 use lib.ListN.{length, take, drop, length-take, length-drop}
 use borrow.Author.Tests.{le-ltb}
 use native.Mathlib.Omega.{arith}
 use Rattle.model.specs.declared.Topology.{Topology}
-use Rattle.model.specs.Notation.{orElse}
 use Rattle.model.specs.Check.{firstRefusal}
 use Rattle.model.specs.Topology.{processLimit, channelLimit}
 use Rattle.model.specs.Layout.{storeCells}

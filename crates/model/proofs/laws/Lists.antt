@@ -4,14 +4,15 @@ use Prim.Native.Nat.{ℕ, zero, suc, _+_, _<_, _≤_}
 use mathlib.Core.Path.{_≡_, refl, ap, ap₂, _∙_}
 use mathlib.Core.Bool.{Bool, true, false, _&&_}
 use mathlib.Core.List.{List, [], _∷_, _++_, map, map-append}
-use mathlib.Core.Option.{Option, none, some, Option·some-ne-none}
+use mathlib.Core.Option.{Option, none, some, orElse}
+use mathlib.Mathlib.Data.Option.Basic.{orElse-eq-none}
 use lib.ListN.{length, length-append, getD, List·getD-append}
 use lib.Seq.{getD-at}
 use lib.Dec.{leb}
 use borrow.Author.Tests.{leb-true}
 use native.Mathlib.Omega.{arith}
 use native.Mathlib.Numerals.{add-one}
-use Rattle.model.specs.Notation.{tabulate, concatBelow, allBelow, orElse, firstBelow}
+use Rattle.model.specs.Notation.{tabulate, concatBelow, allBelow, firstBelow}
 use Rattle.model.proofs.laws.Tests.{true-is-not-false, and-left, and-right, and-both, Tested, holds, fails, test}
 use Rattle.model.proofs.laws.Functions.{Indices, same, other, indices}
 
@@ -104,9 +105,7 @@ at-most n f bound e i l = leb-true (f i) (bound i) (all-at n (λ j. leb (f j) (b
 
 -- where two have no first, neither has one
 pub or-else-none : {A : Type 0} (a b : Option A) → orElse a b ≡ none → (a ≡ none) × (b ≡ none)
-unfolding orElse
-or-else-none none b e = (refl, e)
-or-else-none (some x) b e = absurd (Option·some-ne-none x e)
+or-else-none a b e = orElse-eq-none a b .0 e
 
 pub or-nothing : {A : Type 0} (a : Option A) → orElse a none ≡ a
 unfolding orElse

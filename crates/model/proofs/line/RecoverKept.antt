@@ -4,14 +4,14 @@ use Prim.Native.Nat.{ℕ, _<_}
 use mathlib.Core.Path.{_≡_, refl, sym, ap, subst, _∙_}
 use mathlib.Core.Bool.{true, false}
 use mathlib.Core.List.{List, [], _++_}
-use mathlib.Core.Option.{none}
+use mathlib.Core.Option.{none, orElse}
 use lib.ListN.{length, take}
 use lib.Seq.{take-take, length-take-le}
 use borrow.Author.Tests.{le-leb, le-ltb, lt-ltb}
 use native.Mathlib.Omega.{arith}
 use native.Mathlib.Nat.{le-refl}
 use Rattle.model.specs.declared.Topology.{Topology}
-use Rattle.model.specs.Notation.{tabulate, orElse}
+use Rattle.model.specs.Notation.{tabulate}
 use Rattle.model.specs.Check.{firstRefusal}
 use Rattle.model.specs.Word.{replayBy}
 use Rattle.model.specs.Topology.{sender, receiver, hasProcess, hasChannel, topologyRefusal}

@@ -11,7 +11,7 @@ use borrow.Author.Tests.{leb-true, lt-ltb, not-false}
 use native.Mathlib.Omega.{arith}
 use Rattle.model.specs.declared.Topology.{Topology}
 use Rattle.model.specs.Notation.{tabulate, allBelow}
-use Rattle.model.specs.Check.{Check, _⇒_, firstRefusal}
+use Rattle.model.specs.Check.{Check, _gives_, firstRefusal}
 use Rattle.model.specs.Topology.{topologyRefusal}
 use Rattle.model.specs.Form.{Form, cell, Log, messageLog, channelLog, messagePlaces, channelPlaces, places}
 use Rattle.model.specs.Form.{channelEntryCells, channelCells, entryCell, cellsFrom, entriesFrom}
@@ -41,7 +41,7 @@ unfolding recoverRefusal countsFit countFits
 readable F T st e = record { sized = sized-start F T st (both .0); fits = fits }
   where
     check : List Check
-    check = (not (countsFit F T st) ⇒ 16) ∷ []
+    check = (not (countsFit F T st) gives 16) ∷ []
 
     both : (initializeRefusal F T (length st) ≡ none) × (firstRefusal check ≡ none)
     both = or-else-none (initializeRefusal F T (length st)) (firstRefusal check) e

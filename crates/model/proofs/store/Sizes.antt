@@ -7,7 +7,7 @@ use lib.ListN.{length}
 use lib.Dec.{ltb}
 use borrow.Author.Tests.{ltb-false}
 use Rattle.model.specs.declared.Topology.{Topology}
-use Rattle.model.specs.Check.{Check, _⇒_, firstRefusal}
+use Rattle.model.specs.Check.{Check, _gives_, firstRefusal}
 use Rattle.model.specs.Topology.{processLimit, channelLimit, topologyRefusal}
 use Rattle.model.specs.Form.{Form, storeCells}
 use Rattle.model.specs.Write.{Write, writeAll}
@@ -33,7 +33,7 @@ module _ (F : Form) where
       → (topologyRefusal T ≡ none) × (storeCells F ≤ cells)
   unfolding initializeRefusal
   admitted T cells e =
-      let check : List Check = (ltb cells (storeCells F) ⇒ 6) ∷ [] in
+      let check : List Check = (ltb cells (storeCells F) gives 6) ∷ [] in
       let (topology, long) = or-else-none (topologyRefusal T) (firstRefusal check) e in
       (topology, ltb-false cells (storeCells F) (passed check long .0))
 

@@ -1,7 +1,7 @@
 -- `read` meets its contract: the shape is refused, 3 to 5 are, or the plan passes.
 use borrow.Author.Needs.{needs}
 use mathlib.Core.Path.{sym, ap, _∙_}
-use Rattle.model.specs.Notation.{orElse}
+use mathlib.Core.Option.{orElse}
 use Rattle.model.specs.Outcome.{refusalOf}
 use Rattle.model.specs.Program.{planRefusal}
 use Rattle.plan.specs.PlanRead.{answered, planIn}

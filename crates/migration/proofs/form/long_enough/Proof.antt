@@ -1,7 +1,7 @@
 -- `form::long_enough` meets its contract: what was found, else 6.
 use borrow.Author.Needs.{needs}
 use borrow.Author.Tests.{lt-ltb, le-ltb}
-use Rattle.model.specs.Notation.{orElse}
+use mathlib.Core.Option.{orElse}
 use Rattle.model.specs.Check.{firstRefusal}
 use Rattle.model.specs.Outcome.{refusalOf}
 use Rattle.migration.proofs.form.long_enough.Statement.{statement}

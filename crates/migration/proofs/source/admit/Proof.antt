@@ -1,8 +1,8 @@
 -- `source::admit` meets its contract: 1 to 6 where they refuse, else 16.
 use mathlib.Core.Path.{_≡_, sym, ap, _∙_}
+use mathlib.Core.Option.{orElse}
 use borrow.Author.Needs.{needs}
 use lib.ListN.{length}
-use Rattle.model.specs.Notation.{orElse}
 use Rattle.model.specs.Check.{firstRefusal}
 use Rattle.model.specs.Outcome.{refusalOf}
 use Rattle.model.specs.Recover.{initializeRefusal, recoverRefusal}

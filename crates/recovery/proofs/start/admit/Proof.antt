@@ -1,7 +1,7 @@
 -- `recovery::start::admit` meets its contract: 1 to 5 where they refuse, else 6.
 use borrow.Author.Needs.{needs}
 use borrow.Author.Tests.{lt-ltb, le-ltb}
-use Rattle.model.specs.Notation.{orElse}
+use mathlib.Core.Option.{orElse}
 use Rattle.model.specs.Check.{firstRefusal}
 use Rattle.model.specs.Outcome.{refusalOf}
 use Rattle.model.specs.Recover as recovery

@@ -1,7 +1,7 @@
 -- `recovery::start::admit_store` meets its contract: 1 to 6 where they refuse, else 16.
 use mathlib.Core.Path.{sym, ap, _∙_}
+use mathlib.Core.Option.{orElse}
 use borrow.Author.Needs.{needs}
-use Rattle.model.specs.Notation.{orElse}
 use Rattle.model.specs.Check.{firstRefusal}
 use Rattle.model.specs.Outcome.{refusalOf}
 use Rattle.model.specs.Recover as recovery

@@ -1,7 +1,7 @@
 -- `rules::topology::check` meets its contract: 1 and 2 where they refuse, else what 3 to 5 say.
 use mathlib.Core.Path.{sym, ap, _∙_}
+use mathlib.Core.Option.{orElse}
 use borrow.Author.Needs.{needs}
-use Rattle.model.specs.Notation.{orElse}
 use Rattle.model.specs.Topology.{topologyRefusal}
 use Rattle.model.specs.Outcome.{refusalOf}
 use Rattle.model.proofs.laws.TopologyLaws.{sizes}

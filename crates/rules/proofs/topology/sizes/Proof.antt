@@ -4,7 +4,7 @@ use borrow.Author.Tests.{ltb-true, ltb-false, lt-leb, le-leb, lt-ltb, le-ltb}
 use lib.Dec.{ltb}
 use mathlib.Core.Path.{_≡_}
 use mathlib.Core.List.{[], _∷_}
-use Rattle.model.specs.Check.{_⇒_, firstRefusal}
+use Rattle.model.specs.Check.{_gives_, firstRefusal}
 use Rattle.model.specs.Outcome.{refusalOf}
 use Rattle.model.specs.Topology.{processLimit, channelLimit, sizeRefusal}
 use Rattle.rules.proofs.topology.sizes.Statement.{statement}
@@ -21,7 +21,7 @@ returns c =
 
 -- past the first test
 known : (c : tie.Else2) → sizeRefusal (c .before .before .args .processes) (c .before .before .args .channels)
-    ≡ firstRefusal ((ltb channelLimit (c .before .before .args .channels) ⇒ 2) ∷ [])
+    ≡ firstRefusal ((ltb channelLimit (c .before .before .args .channels) gives 2) ∷ [])
 unfolding sizeRefusal firstRefusal
 known c =
     let n = c .before .before .args .processes in
