@@ -20,11 +20,11 @@ pub record Recovered (T : Topology) (r : Startup) (h : History) (commits : ℕ) 
   -- "gives an idle state whose line number is the number of accepted finishes."
   pub idle : r .state .round .phase ≡ Idle
   pub line : r .state .round .line ≡ commits
-  -- "on each wire the bodies sent, in order, are the bodies taken, in order, followed by the bodies the wire now holds,
+  -- "on each wire the bodies sent, in order, are the bodies taken, in order, followed by the bodies the wire now holds"
   pub channels : (c : ℕ) → c < T .channels
       → bodiesOn sent c (h .events (sender T c))
       ≡ bodiesOn received c (h .events (receiver T c)) ++ bodies (r .state .channel c)
-  -- and it holds no note."
+  -- "and it holds no note."
   pub markerless : (c : ℕ) → c < T .channels → markerless (r .state .channel c) ≡ true
   -- "Each word is what the takes in the board's book make from word 0, in order."; "What a board's takes make, after a
   -- restart, is read by this rule.": M-101's, of wire and body

@@ -57,7 +57,7 @@ recordOf f =
 unfoldable pub bit : ℕ → ℕ
 bit field = cond (absent field) 0 1
 
--- "bit 0 kind, bit 1 board, bit 2 wire, bit 3 body"
+-- "bit 0 kind [..], bit 1 board [..], bit 2 wire [..], bit 3 body"
 unfoldable pub mapOf : Fields → ℕ
 mapOf f = 1 + 2 * bit (f .process) + 4 * bit (f .channel) + 8 * bit (f .body)
 

@@ -18,7 +18,7 @@ unfoldable pub spacedBytes : List ℕ → List ℕ
 spacedBytes [] = []
 spacedBytes (b ∷ bs) = chars " " ++ hexByte b ++ spacedBytes bs
 
--- "bytes in upper-case hexadecimal with one space between"
+-- bytes in upper-case hexadecimal, with one space between
 unfoldable pub hexBytes : List ℕ → List ℕ
 hexBytes [] = []
 hexBytes (b ∷ bs) = hexByte b ++ spacedBytes bs
@@ -31,7 +31,7 @@ planLineText bytes = hexBytes bytes ++ chars "\n"
 abbrev pub callText : List ℕ → ℕ → List ℕ
 callText bytes number = hexBytes bytes ++ chars " # " ++ decimal number
 
--- "a line for each kept call with its bytes, ` # ` and its number in the list"
+-- a line for each kept call with its bytes, ` # ` and its number in the list
 abbrev pub keptText : List ℕ → ℕ → List ℕ
 keptText bytes number = callText bytes number ++ chars "\n"
 
@@ -39,10 +39,10 @@ keptText bytes number = callText bytes number ++ chars "\n"
 abbrev pub sentText : List ℕ → ℕ → ℕ → List ℕ
 sentText bytes number room = callText bytes number ++ named (chars " sent") (room ∷ [])
 
--- "on the last one ` refused ` and the number" of the refusal
+-- on the last one ` refused ` and the number of the refusal
 abbrev pub lastText : List ℕ → ℕ → ℕ → List ℕ
 lastText bytes number n = callText bytes number ++ named (chars " refused") (n ∷ [])
 
--- one line alone, such as "refused 17"
+-- one line alone, such as `refused 17`
 abbrev pub refusedText : ℕ → List ℕ
 refusedText n = named (chars "refused") (n ∷ [])

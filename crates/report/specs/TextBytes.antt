@@ -1,7 +1,7 @@
 -- How many bytes the texts have at most. Every number that is printed is a `u32` of the code.
 use Prim.Native.Nat.{ℕ, _+_, _*_}
 
--- "4294967295"
+-- `4294967295`
 abbrev pub numberBytes : ℕ
 numberBytes = 10
 
@@ -9,7 +9,7 @@ numberBytes = 10
 abbrev pub valueBytes : ℕ
 valueBytes = 1 + numberBytes
 
--- "took 4294967295" and "line 4294967295"; the count after `sent` and a refusal's number are bytes
+-- `took 4294967295` and `line 4294967295`; the count after `sent` and a refusal's number are bytes
 abbrev pub saidBytes : ℕ
 saidBytes = 4 + valueBytes
 

@@ -6,7 +6,7 @@ use Rattle.model.specs.Program.{given, Played, played}
 use Rattle.report.specs.Text.{outputText}
 use Rattle.report.specs.Changed.{startStore, changedText}
 
--- "Last, after boards and wires": where the plan is refused, no cell differs.
+-- last, after boards and wires; where the plan is refused, no cell differs
 unfoldable pub drillText : List ℕ → List ℕ
 drillText input =
     let x : Played = played given startStore input in
