@@ -21,16 +21,16 @@ use Rattle.model.proofs.store.Readable.{Readable, readable, readable-topology}
 use Rattle.migration.specs.Carry.{carryRefusal, carriedOr}
 use Rattle.migration.specs.Carries.{Carries}
 
-pub record Ready (F G : Form) (T : Topology) (source target : List ℕ) : Type 0 where
+pub record Carriable (F G : Form) (T : Topology) (source target : List ℕ) : Type 0 where
   pub accepted : recoverRefusal F T source ≡ none
   pub topology : topologyRefusal T ≡ none
   pub readable : Readable F T source
   pub sized : Sized G T target
 
-pub ready : (F G : Form) (T : Topology) (source target : List ℕ)
-    → carryRefusal F G T source (length target) ≡ none → Ready F G T source target
+pub carriable : (F G : Form) (T : Topology) (source target : List ℕ)
+    → carryRefusal F G T source (length target) ≡ none → Carriable F G T source target
 unfolding carryRefusal
-ready F G T source target e =
+carriable F G T source target e =
     let check : List Check = (ltb (length target) (storeCells G) gives 6) ∷ [] in
     let (accepted, long) = or-else-none (recoverRefusal F T source) (firstRefusal check) e in
     let known = readable F T source accepted in

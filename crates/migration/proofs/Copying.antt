@@ -12,7 +12,7 @@ use Rattle.model.proofs.store.Writes.{length-writeAll, writeAll-append}
 use Rattle.model.proofs.store.Entries.{cells-more}
 use Rattle.model.proofs.store.Readable.{bodies-are}
 use Rattle.migration.specs.Carry.{bodiesWrites}
-use Rattle.migration.specs.Reading.{bodiesAt}
+use Rattle.migration.specs.Source.{bodiesAt}
 
 -- one write after others
 pub one-more : (before : List ℕ) (ws : List Write) {after : List ℕ} → after ≡ writeAll before ws → (at v : ℕ)

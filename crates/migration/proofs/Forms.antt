@@ -5,7 +5,7 @@ use native.Mathlib.Nat.{mul-le-mul-left}
 use Rattle.model.specs.Form.{processCells, slotCells, slot, processRecord, physicalCell}
 use Rattle.migration.specs.declared.form.Form.{Form}
 use Rattle.migration.specs.declared.form.Form.the-variants.{Old, Present}
-use Rattle.migration.specs.Reading.{formOf}
+use Rattle.migration.specs.Source.{formOf}
 
 pub few-cells : (f : Form) → formOf f .messageCells ≤ 2
 few-cells Old = omega arith

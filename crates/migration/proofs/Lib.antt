@@ -1,4 +1,4 @@
--- Laws that the proofs of several functions cite, and the theorems of specs/Faithful.
+-- Laws that the proofs of several functions cite, and the theorems of specs/Faithful and specs/Old.
 pub mod Forms
 pub mod Admitting
 pub mod Writing
@@ -6,4 +6,5 @@ pub mod Copying
 pub mod Left
 pub mod Landing
 pub mod Recovers
-pub mod ThereAndBack
+pub mod Faithful
+pub mod Old

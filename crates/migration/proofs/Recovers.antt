@@ -27,11 +27,11 @@ use Rattle.model.proofs.store.Addresses.{line-in-store, in-store, physical-with
 use Rattle.model.proofs.store.Readable.{bodies-are}
 use Rattle.migration.specs.Carry.{processesWrites, channelsWrites, carryWrites}
 use Rattle.migration.specs.Faithful.{Alike}
-use Rattle.migration.proofs.Admitting.{Ready}
+use Rattle.migration.proofs.Admitting.{Carriable}
 use Rattle.migration.proofs.Left.{Leaves}
 use Rattle.migration.proofs.Landing.{line-left, physical-left, message-left, count-left, body-left}
 
-module _ (F G : Form) (T : Topology) (source target : List ℕ) (r : Ready F G T source target) where
+module _ (F G : Form) (T : Topology) (source target : List ℕ) (r : Carriable F G T source target) where
   abbrev k : ℕ
   k = storedLine source
 

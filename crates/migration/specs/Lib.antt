@@ -4,4 +4,4 @@ pub mod Old
 pub mod Carry
 pub mod Carries
 pub mod Faithful
-pub mod Reading
+pub mod Source

@@ -7,7 +7,7 @@ use rules::layout;
 ghost use mathlib.Core.Path.{_≡_};
 ghost use Rattle.model.specs.Write.{writeAll};
 ghost use Rattle.migration.specs.Carry.{processesWrites, bodiesWrites, channelsWrites, carryWrites};
-ghost use Rattle.migration.specs.Reading.{formOf, Admitted, Copyable, bodiesAt};
+ghost use Rattle.migration.specs.Source.{formOf, Admitted, Copyable, bodiesAt};
 
 // The words as physical checkpoints, with empty message logs.
 fn processes(topology: Topology, from: Form, source: &[u32], to: Form, target: &mut [u32])

@@ -11,7 +11,7 @@ ghost use Rattle.model.specs.Outcome.{refusalOf};
 ghost use Rattle.model.specs.Form.{processCells, slotCells, storeCells, slot, physicalCell, countCell};
 ghost use Rattle.model.specs.Form.{channelLog};
 ghost use Rattle.migration.specs.Old.{oldEnter};
-ghost use Rattle.migration.specs.Reading.{formOf, lengthRefusal};
+ghost use Rattle.migration.specs.Source.{formOf, lengthRefusal};
 
 // Document 01's store, and that of document 02's M-101.
 pub enum Form {

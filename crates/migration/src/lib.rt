@@ -12,7 +12,7 @@ ghost use Rattle.model.specs.Layout.{present};
 ghost use Rattle.migration.specs.Old.{old};
 ghost use Rattle.migration.specs.Carry.{carry, carryRefusal};
 ghost use Rattle.migration.specs.Carries.{Carries};
-ghost use Rattle.migration.specs.Reading.{formOf};
+ghost use Rattle.migration.specs.Source.{formOf};
 
 // How many cells a store of the old form has.
 pub const OLD_STORE_CELLS: usize = 3265;

@@ -15,7 +15,7 @@ ghost use lib.ListN.{length};
 ghost use Rattle.model.specs.Outcome.{refusalOf};
 ghost use Rattle.model.specs.Form.{cellsFrom, receiptIn, messagePlaces};
 ghost use Rattle.model.specs.Recover.{initializeRefusal, countsFit, recoverRefusal};
-ghost use Rattle.migration.specs.Reading.{formOf, Lies, wordAt};
+ghost use Rattle.migration.specs.Source.{formOf, Lies, wordAt};
 
 // Whether the logs of the source's line are within their places.
 fn counts_fit(topology: Topology, form: Form, source: &[u32]) -> bool

@@ -10,8 +10,8 @@ use Rattle.model.specs.Recover.{storedLine}
 use Rattle.model.proofs.store.Readable.{last-in-store}
 use Rattle.model.proofs.store.Addresses.{line-in-store, in-store, log-within}
 use Rattle.migration.specs.Carry.{bodiesWrites, channelsWrites}
-use Rattle.migration.specs.Reading.{formOf, bodiesAt}
-use Rattle.migration.proofs.Admitting.{Ready, ready}
+use Rattle.migration.specs.Source.{formOf, bodiesAt}
+use Rattle.migration.proofs.Admitting.{Carriable, carriable}
 use Rattle.migration.proofs.Writing.{Wrote, none-wrote, one-wrote, all-wrote, wrote-length}
 use Rattle.migration.proofs.destination.channels.Statement.{statement}
 use Rattle.migration.proofs.destination.channels.Tie as tie
@@ -30,8 +30,8 @@ abbrev μ-loop : tie.MeasureT-loop
 
 -- nothing was refused
 known : (c : tie.Start Inv-loop μ-loop)
-    → let a = c .args in Ready (formOf (a .from)) (formOf (a .to)) (a .topology) (a .source .now) (a .target .now)
-known c = let a = c .args in ready _ _ (a .topology) (a .source .now) (a .target .now) (c .pre)
+    → let a = c .args in Carriable (formOf (a .from)) (formOf (a .to)) (a .topology) (a .source .now) (a .target .now)
+known c = let a = c .args in carriable _ _ (a .topology) (a .source .now) (a .target .now) (c .pre)
 
 -- where a turn begins
 abbrev start : tie.Then1 Inv-loop μ-loop → tie.Start Inv-loop μ-loop

@@ -10,16 +10,16 @@ use Rattle.model.specs.Recover.{storedLine}
 use Rattle.model.proofs.store.Writes.{length-writeAll, writeAll-append}
 use Rattle.model.proofs.store.Addresses.{line-in-store}
 use Rattle.migration.specs.Carry.{processesWrites, channelsWrites, carryWrites}
-use Rattle.migration.specs.Reading.{formOf}
-use Rattle.migration.proofs.Admitting.{Ready, ready}
+use Rattle.migration.specs.Source.{formOf}
+use Rattle.migration.proofs.Admitting.{Carriable, carriable}
 use Rattle.migration.proofs.Copying.{one-more}
 use Rattle.migration.proofs.destination.write.Statement.{statement}
 use Rattle.migration.proofs.destination.write.Tie as tie
 
 -- nothing was refused
 known : (c : tie.Start)
-    → let a = c .args in Ready (formOf (a .from)) (formOf (a .to)) (a .topology) (a .source .now) (a .target .now)
-known c = let a = c .args in ready _ _ (a .topology) (a .source .now) (a .target .now) (c .pre)
+    → let a = c .args in Carriable (formOf (a .from)) (formOf (a .to)) (a .topology) (a .source .now) (a .target .now)
+known c = let a = c .args in carriable _ _ (a .topology) (a .source .now) (a .target .now) (c .pre)
 
 channels-requires : tie.Need-channels-requires
 channels-requires c κs =

@@ -5,7 +5,7 @@ use mir.Syntax.{w8}
 use mir.Val.{Fits}
 use Prim.Native.Nat.{_*_, _≤_}
 use Rattle.model.specs.Form.{processCells, processRecord, physicalCell}
-use Rattle.migration.specs.Reading.{formOf}
+use Rattle.migration.specs.Source.{formOf}
 use Rattle.migration.proofs.Forms.{few-cells, slot-low, record-low}
 use Rattle.migration.proofs.form.physical_cell.Statement.{statement}
 use Rattle.migration.proofs.form.physical_cell.Tie as tie

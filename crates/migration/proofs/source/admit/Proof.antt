@@ -6,7 +6,7 @@ use lib.ListN.{length}
 use Rattle.model.specs.Check.{firstRefusal}
 use Rattle.model.specs.Outcome.{refusalOf}
 use Rattle.model.specs.Recover.{initializeRefusal, recoverRefusal}
-use Rattle.migration.specs.Reading.{formOf, lengthRefusal}
+use Rattle.migration.specs.Source.{formOf, lengthRefusal}
 use Rattle.migration.proofs.source.admit.Statement.{statement}
 use Rattle.migration.proofs.source.admit.Tie as tie
 

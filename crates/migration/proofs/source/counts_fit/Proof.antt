@@ -9,7 +9,7 @@ use Rattle.model.specs.Form.{cell, messageLog, countCell, channelRecord, physic
 use Rattle.model.specs.Recover.{storedLine}
 use Rattle.model.proofs.store.Sizes.{Sized, sized-start}
 use Rattle.model.proofs.store.Readable.{messages-over, messages-fit}
-use Rattle.migration.specs.Reading.{formOf}
+use Rattle.migration.specs.Source.{formOf}
 use Rattle.migration.proofs.Forms.{few-cells, slot-low, physical-low}
 use Rattle.migration.proofs.source.counts_fit.Statement.{statement}
 use Rattle.migration.proofs.source.counts_fit.Tie as tie

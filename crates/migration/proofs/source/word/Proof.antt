@@ -6,7 +6,7 @@ use lib.ListN.{length}
 use Rattle.model.specs.Form.{cell}
 use Rattle.model.proofs.store.RunningIndex.{index-inside}
 use Rattle.model.proofs.store.LogReplay.{LogReplay, replay-starts, replay-goes-on, replay-ends}
-use Rattle.migration.specs.Reading.{formOf}
+use Rattle.migration.specs.Source.{formOf}
 use Rattle.migration.proofs.source.word.Statement.{statement}
 use Rattle.migration.proofs.source.word.Tie as tie
 

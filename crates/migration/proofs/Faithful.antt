@@ -1,24 +1,17 @@
--- The theorems of specs/Faithful, and the numbers of the old form.
+-- The theorems of specs/Faithful.
 use Prim.Native.Nat.{ℕ}
 use mathlib.Core.Path.{_≡_, refl, sym, _∙_}
-use mathlib.Core.List.{List, [], _∷_}
+use mathlib.Core.List.{List}
 use mathlib.Core.Option.{Option, none, some, orElse}
 use lib.ListN.{length}
 use borrow.Author.Tests.{le-ltb}
 use Rattle.model.specs.Check.{firstRefusal}
-use Rattle.model.specs.Form.{numbers}
 use Rattle.model.specs.State.{GlobalState}
 use Rattle.model.specs.Recover.{startupOr, recoverRefusal, recover}
-use Rattle.migration.specs.Old.{old}
 use Rattle.migration.specs.Carry.{carryRefusal, carriedOr, carry}
 use Rattle.migration.specs.Faithful.{Alike, Faithful, FaithfulOfCode, ThereAndBack}
-use Rattle.migration.proofs.Admitting.{ready}
+use Rattle.migration.proofs.Admitting.{carriable}
 use Rattle.migration.proofs.Recovers.{alike}
-
--- document 01's: records of 66 cells, wires at 1,056 in the half, halves of 1,632 and 3,265 in all
-pub old-numbers : numbers old ≡ 66 ∷ 1056 ∷ 1632 ∷ 3265 ∷ []
-unfolding numbers
-old-numbers = refl
 
 -- what is refused is what the checks refuse
 carried-refusal : (o : Option ℕ) (after before : List ℕ) → carriedOr o after before .refusal ≡ o
@@ -35,7 +28,7 @@ pub faithful : Faithful
 unfolding carry carriedOr
 faithful F G T source target e =
     let passed : carryRefusal F G T source (length target) ≡ none = sym (carried-refusal _ _ _) ∙ e in
-    rw passed (alike F G T source target (ready F G T source target passed))
+    rw passed (alike F G T source target (carriable F G T source target passed))
 
 pub faithful-of-code : FaithfulOfCode
 faithful-of-code F G T source before after r kept e =

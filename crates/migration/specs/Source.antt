@@ -1,5 +1,5 @@
--- What the functions behind the two public ones promise: which form the code's stands for, and a store read by places
--- instead of lines.
+-- A source as the functions behind the two public ones read it, by places instead of lines; which form the code's
+-- stands for; and what must hold of source and target where a line is carried.
 use Prim.Native.Nat.{ℕ, _+_, _*_, _<_, _≤_}
 use mathlib.Core.Path.{_≡_}
 use mathlib.Core.List.{List, [], _∷_, map}
