@@ -86,15 +86,11 @@ pub fn channel_count_cell(form: Form, line: u32, channel: u8) -> usize
     slot(form, line) + PROCESSES * process_cells(form) + layout::CHANNEL_CELLS * (channel as usize)
 }
 
-const FACTOR: u64 = 31;
-
-const MODULUS: u64 = 4294967296;
-
 // The old word rule: 31 × word + body, modulo 2^32.
 fn old_enter(word: u32, receipt: Receipt) -> u32
     ensures { λ r. ⌜ r ≡ oldEnter word receipt ⌝ }
 {
-    ((FACTOR * (word as u64) + receipt.body as u64) % MODULUS) as u32
+    std::num::wrapping_add_u32(word::product(word), receipt.body)
 }
 
 // What a receipt makes of a word.

@@ -8,8 +8,8 @@ const FACTOR: u64 = 31;
 
 const MODULUS: u64 = 4294967296;
 
-// 31 times a word, wrapped.
-fn product(word: u32) -> u32
+// 31 times a word, wrapped: for this rule, and for document 01's before it.
+pub fn product(word: u32) -> u32
     ensures { λ r. ⌜ r ≡ 31 * word % 4294967296 ⌝ }
 {
     ((FACTOR * (word as u64)) % MODULUS) as u32
