@@ -45,6 +45,12 @@ carriable F G T source target e =
       };
     }
 
+-- what is refused is what the checks refuse
+pub carried-refusal : (o : Option ℕ) (after before : List ℕ) → carriedOr o after before .refusal ≡ o
+unfolding carriedOr
+carried-refusal none after before = refl
+carried-refusal (some n) after before = refl
+
 module _ (after before : List ℕ) (r : Verdict) {o : Option ℕ} (said : refusalOf r ≡ o) where
   pub carries-done : o ≡ none → Carries (carriedOr o after before) r after
   unfolding carriedOr

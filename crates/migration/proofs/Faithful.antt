@@ -10,15 +10,10 @@ use Rattle.model.specs.State.{GlobalState}
 use Rattle.model.specs.Recover.{startupOr, recoverRefusal, recover}
 use Rattle.migration.specs.Carry.{carryRefusal, carriedOr, carry}
 use Rattle.migration.specs.Faithful.{Alike, Faithful, FaithfulOfCode, ThereAndBack}
-use Rattle.migration.proofs.Admitting.{carriable}
+use Rattle.migration.proofs.Admitting.{carriable, carried-refusal}
 use Rattle.migration.proofs.Recovers.{alike}
 
 -- what is refused is what the checks refuse
-carried-refusal : (o : Option ℕ) (after before : List ℕ) → carriedOr o after before .refusal ≡ o
-unfolding carriedOr
-carried-refusal none after before = refl
-carried-refusal (some n) after before = refl
-
 startup-refusal : (o : Option ℕ) (s : GlobalState) (after before : List ℕ) → startupOr o s after before .refusal ≡ o
 unfolding startupOr
 startup-refusal none s after before = refl

@@ -54,7 +54,7 @@ leaves-concat (suc n) f i a v l h spared =
     go (other e) before = leaves-first (before (omega (arith, e))) (f n) (spared n (omega arith) e)
 
 -- values into the cells from `at` on: they spare the others, and leave each value in its cell
-cells-spare : (at : ℕ) (vs : List ℕ) (a : ℕ) → (Between at (at + length vs) a → ⊥) → Spares (cellWrites at vs) a
+pub cells-spare : (at : ℕ) (vs : List ℕ) (a : ℕ) → (Between at (at + length vs) a → ⊥) → Spares (cellWrites at vs) a
 cells-spare at vs a h =
     each-map (λ w. Between at (at + length vs) (w .cell)) (λ w. a ≡ w .cell → ⊥) (λ w b e. h (rw e b))
     (cellWrites at vs)

@@ -1,4 +1,5 @@
--- Laws that the proofs of several functions cite, and the theorems of specs/Faithful and specs/Old.
+-- Laws that the proofs of several functions cite, and the theorems whose statements are in specs/: LineLast, Faithful
+-- and Old.
 pub mod Forms
 pub mod Admitting
 pub mod Writing
@@ -6,5 +7,6 @@ pub mod Copying
 pub mod Left
 pub mod Landing
 pub mod Recovers
+pub mod LineLast
 pub mod Faithful
 pub mod Old

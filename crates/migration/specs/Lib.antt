@@ -3,5 +3,6 @@
 pub mod Old
 pub mod Carry
 pub mod Carries
+pub mod LineLast
 pub mod Faithful
 pub mod Source
