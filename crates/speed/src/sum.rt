@@ -4,7 +4,7 @@ use model::Record;
 use model::Step;
 
 pub fn fold(sum: u32, value: u32) -> u32 {
-    std::num::wrapping_add_u32(((31 * (sum as u64)) % 4294967296) as u32, value)
+    std::num::wrapping_add_u32(rules::word::product(sum), value)
 }
 
 pub fn outcome_code(outcome: Outcome) -> u32 {
