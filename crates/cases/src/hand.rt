@@ -1,149 +1,138 @@
-// States, plans and steps made by hand, and what the engine answers to them. A step is written as its kind in document
-// 01 (1 to 8) and its process or channel. Answers are numbers: a refusal's; 100 for done, 200 for a marker, 300 and the
-// body for a message received, 500 and the room left for one sent, and 1,000 more for each write. A function with `ok`
-// answers whether all was right before and is so here too.
-use libc::STDOUT_FILENO;
-use model::Outcome;
+// Topologies and states made by hand: one of each to start from, and functions that change a thing of it.
+use model::CHANNELS;
+use model::PLACES;
+use model::PROCESSES;
 use model::Phase;
+use model::Round;
 use model::State;
 use model::Step;
 use model::Topology;
-use rules::layout::STORE_CELLS;
 
-// More writes than any step makes; as a line, the last one there can be.
-pub const LAST: u32 = 4294967295;
+// The papers' numbers stand here by hand, so that the code's own constants are tried too: the cells of a store, the
+// cell of k, and the last k there is.
+pub const STORE_CELLS: usize = 5313;
 
-// A cell fewer than the store has.
-pub const SHORT: usize = STORE_CELLS - 1;
+pub const LINE_CELL: usize = 0;
+
+pub const LAST_LINE: u32 = 4294967295;
 
 // What every cell of a store holds at first.
 pub const RUBBISH: u32 = 3735928559;
 
-pub fn tell(name: &[u8], ok: bool) {
-    if ok {
-        io::write_all(STDOUT_FILENO, b"ok ");
-    } else {
-        io::write_all(STDOUT_FILENO, b"FAILED ");
-    }
-    io::write_all(STDOUT_FILENO, name);
-    io::write_all(STDOUT_FILENO, b"\n");
-}
+// The body of every message here.
+pub const BODY: u32 = 5;
 
-// Whether every cell is as it was at first.
-pub fn untouched(store: &[u32]) -> bool {
-    let mut i: usize = 0;
-    while i < store.len() {
-        if store[i] != RUBBISH {
-            return false;
-        }
-        i += 1;
-    }
-    true
-}
+// The kind of an entry that is a marker.
+const MARKER: u8 = 2;
 
-fn number(outcome: Outcome, made: u32) -> u64 {
-    let code = match outcome {
-        Outcome::Done => 100,
-        Outcome::Sent(room) => 500 + room as u64,
-        Outcome::Received(body) => 300 + body as u64,
-        Outcome::ReceivedMarker => 200,
-        Outcome::Refused(r) => rules::refusal::number(r) as u64,
-        Outcome::PowerLost => 400,
-    };
-    std::num::wrapping_add_u64(code, 1000 * (made as u64))
-}
-
-// The step of a kind; a message has body 1.
-pub fn step(kind: u8, at: u8) -> Step {
-    match kind {
-        1 => Step::Send {
-            channel: at,
-            body: 1,
-        },
-        2 => Step::Receive { channel: at },
-        3 => Step::Begin,
-        4 => Step::PhysicalCheckpoint { process: at },
-        5 => Step::LogicalCheckpoint { process: at },
-        6 => Step::SendMarker { channel: at },
-        7 => Step::Commit,
-        _ => Step::Abort,
-    }
-}
-
-// A step's answer; 0 where it is refused and has changed the store, or isn't refused again in the state answered.
-pub fn answered(s: State, step: Step, store: &mut [u32]) -> u64 {
-    let answer = engine::step(s, step, store, LAST);
-    let outcome = answer.outcome;
-    let said = number(outcome, answer.made);
-    if said <= 16 {
-        let same = answer.state;
-        let again = engine::step(same, step, store, LAST);
-        let repeated = again.outcome;
-        if number(repeated, again.made) != said || !untouched(store) {
-            return 0;
-        }
-    }
-    said
-}
-
-// A step on a store that is long enough.
-pub fn tried(ok: bool, s: State, kind: u8, at: u8, answer: u64) -> bool {
-    let mut store = [RUBBISH; STORE_CELLS];
-    answered(s, step(kind, at), &mut store) == answer && ok
-}
-
-// The ends of the first two channels are the digits of a hexadecimal number; the others have both ends at 0.
-pub fn plan(processes: u8, channels: u8, ends: u16) -> Topology {
-    let mut t = Topology {
+// So many processes and channels, each channel with both ends at process 0.
+pub fn sized(processes: u8, channels: u8) -> Topology {
+    Topology {
         processes,
         channels,
-        from: [0; 64],
-        to: [0; 64],
-    };
-    t.from[0] = (ends / 4096) as u8;
-    t.to[0] = (ends / 256 % 16) as u8;
-    t.from[1] = (ends / 16 % 16) as u8;
-    t.to[1] = (ends % 16) as u8;
-    t
+        from: [0; CHANNELS],
+        to: [0; CHANNELS],
+    }
 }
 
-// A state as initialize leaves it with two processes and a channel each way, but with another plan.
-pub fn planned(processes: u8, channels: u8, ends: u16) -> State {
+// Two processes and channel 0 between these ends.
+pub fn one_channel(from: u8, to: u8) -> Topology {
+    let mut topology = sized(2, 1);
+    topology.from[0] = from;
+    topology.to[0] = to;
+    topology
+}
+
+// Channel 1 as well.
+pub fn two_channels(from: u8, to: u8, from_1: u8, to_1: u8) -> Topology {
+    let mut topology = one_channel(from, to);
+    topology.channels = 2;
+    topology.from[1] = from_1;
+    topology.to[1] = to_1;
+    topology
+}
+
+// The plan of document 01's listing: two processes, channel 0 from 0 to 1, channel 1 from 1 to 0.
+pub fn pair() -> Topology {
+    two_channels(0, 1, 1, 0)
+}
+
+// The state that initialize leaves for the pair: idle at line 0, words and tags 0, channels and logs empty.
+pub fn idle() -> State {
     let mut store = [RUBBISH; STORE_CELLS];
-    let started = engine::initialize(plan(2, 2, 0x0110), &mut store);
-    let mut state = started.state;
-    state.topology = plan(processes, channels, ends);
+    let started = engine::initialize(pair(), &mut store);
+    started.state
+}
+
+pub fn with_topology(mut state: State, topology: Topology) -> State {
+    state.topology = topology;
     state
 }
 
-// That plan's state at a line and in a phase, so many entries on channel 1 and in both logs of 1; past it, too many.
-pub fn made(line: u32, phase: Phase, entries: u8, messages: u8, logged: u8) -> State {
-    let mut state = planned(2, 2, 0x0110);
-    let round = model::Round { line, phase };
-    state.round = round;
-    let mut held = state.channels[1];
-    held.count = 9;
-    state.channels[2] = held;
-    held.count = entries;
-    state.channels[1] = held;
+pub fn at_line(mut state: State, line: u32) -> State {
+    let round = state.round;
+    let phase = round.phase;
+    let moved = Round { line, phase };
+    state.round = moved;
+    state
+}
+
+pub fn in_phase(mut state: State, phase: Phase) -> State {
+    let round = state.round;
+    let moved = Round {
+        line: round.line,
+        phase,
+    };
+    state.round = moved;
+    state
+}
+
+// So many messages on a channel.
+pub fn with_messages(mut state: State, channel: usize, count: u8) -> State {
+    let c = channel % CHANNELS;
+    let mut held = state.channels[c];
+    held.bodies = [BODY; PLACES];
+    held.count = count;
+    state.channels[c] = held;
+    state
+}
+
+// A marker alone on a channel.
+pub fn with_marker(mut state: State, channel: usize) -> State {
+    let c = channel % CHANNELS;
+    let mut held = state.channels[c];
+    held.kinds[0] = MARKER;
+    held.count = 1;
+    state.channels[c] = held;
+    state
+}
+
+pub fn with_closed(mut state: State, channel: usize) -> State {
+    let mut flags = state.flags;
+    flags.closed[channel % CHANNELS] = true;
+    state.flags = flags;
+    state
+}
+
+// So many entries in the message log of a process.
+pub fn with_message_log(mut state: State, process: usize, count: u8) -> State {
     let mut counts = state.counts;
-    counts.messages[1] = messages;
-    counts.messages[2] = 65;
-    counts.channels[1] = logged;
-    counts.channels[2] = 9;
+    counts.messages[process % PROCESSES] = count;
     state.counts = counts;
     state
 }
 
-// A state in a phase with a marker alone on channel 0.
-pub fn marked(phase: Phase, closed: bool) -> State {
-    let mut state = made(0, phase, 0, 0, 0);
-    let mut held = state.channels[0];
-    held.count = 1;
-    held.kinds[0] = 2;
-    state.channels[0] = held;
-    let mut flags = state.flags;
-    flags.closed[0] = closed;
-    state.flags = flags;
+// So many entries in the log of a channel.
+pub fn with_channel_log(mut state: State, channel: usize, count: u8) -> State {
+    let mut counts = state.counts;
+    counts.channels[channel % CHANNELS] = count;
+    state.counts = counts;
     state
+}
+
+pub fn send(channel: u8) -> Step {
+    Step::Send {
+        channel,
+        body: BODY,
+    }
 }

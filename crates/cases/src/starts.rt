@@ -1,86 +1,83 @@
-// Initialize and recover on stores made by hand. Their answers are numbers as in hand.rt: 100 where it is accepted.
-use crate::hand;
-use crate::hand::LAST;
+// Initialize and recover on stores made by hand, and whether they answer as expected.
+use crate::expected::Told;
+use crate::expected::line;
+use crate::expected::refused;
+use crate::expected::same;
+use crate::expected::untouched;
+use crate::hand::BODY;
+use crate::hand::LINE_CELL;
 use crate::hand::RUBBISH;
-use crate::hand::SHORT;
+use crate::hand::STORE_CELLS;
+use crate::hand::pair;
+use crate::hand::sized;
 use model::Start;
+use model::Started;
 use model::Topology;
-use rules::layout::STORE_CELLS;
 
-fn start_number(start: Start) -> u64 {
-    match start {
-        Start::Ready => 100,
-        Start::Refused(r) => rules::refusal::number(r) as u64,
-    }
-}
+// Cells of the slot for line 0, which starts at 1. In it the record of process p starts at 130 × p: its physical
+// checkpoint, its log's count, a body and a channel for each entry. That of channel c starts at 2,080 + 9 × c: its log's
+// count, a body for each entry.
+const COUNT_OF_PROCESS_0: usize = 1 + 1;
 
-// A recover after an initialize and a change of one cell.
-pub fn recovered(ok: bool, t: Topology, cell: usize, value: u32, answer: u64) -> bool {
-    let mut store = [RUBBISH; STORE_CELLS];
-    engine::initialize(hand::plan(2, 2, 0x0110), &mut store);
-    store[cell % STORE_CELLS] = value;
-    let started = recovery::recover(t, &store);
+const FIRST_BODY: usize = 1 + 2;
+
+const FIRST_CHANNEL: usize = 1 + 3;
+
+pub const COUNT_OF_PROCESS_1: usize = 1 + 130 + 1;
+
+pub const COUNT_OF_PROCESS_2: usize = 1 + 2 * 130 + 1;
+
+pub const COUNT_OF_CHANNEL_1: usize = 1 + 2080 + 9;
+
+// "`line` and its number for a restart; `refused` and number"
+pub fn answered(started: Started, expected: Told) -> bool {
+    let state = started.state;
+    let round = state.round;
     let start = started.start;
-    start_number(start) == answer && ok
+    let told = match start {
+        Start::Ready => line(round.line),
+        Start::Refused(r) => refused(rules::refusal::number(r)),
+    };
+    same(told, expected)
 }
 
-// The word of process 0 after a recover from its physical checkpoint, 0, and an entry of its message log: body and
-// channel, whatever they are.
-pub fn restored(body: u32, channel: u32) -> u32 {
-    let t = hand::plan(1, 0, 0);
+// A recover by a topology after an initialize for the pair and a change of one cell.
+fn recovers(topology: Topology, cell: usize, value: u32, expected: Told) -> bool {
     let mut store = [RUBBISH; STORE_CELLS];
-    engine::initialize(t, &mut store);
-    store[2] = 1;
-    store[3] = body;
-    store[4] = channel;
-    let started = recovery::recover(t, &store);
+    engine::initialize(pair(), &mut store);
+    store[cell % STORE_CELLS] = value;
+    answered(recovery::recover(topology, &store), expected)
+}
+
+// By the pair, with a cell changed.
+pub fn recovers_with(cell: usize, value: u32, expected: Told) -> bool {
+    recovers(pair(), cell, value, expected)
+}
+
+// By another topology, with no cell changed: initialize has put 0 there.
+pub fn recovers_by(topology: Topology, expected: Told) -> bool {
+    recovers(topology, LINE_CELL, 0, expected)
+}
+
+// An initialize and a recover on a store that is a cell short; initialize leaves it as it was.
+pub fn starts_short(topology: Topology, expected: Told) -> bool {
+    let mut store = [RUBBISH; STORE_CELLS - 1];
+    let first = engine::initialize(topology, &mut store);
+    let kept = untouched(&store);
+    let again = recovery::recover(topology, &store);
+    answered(first, expected) && kept && answered(again, expected)
+}
+
+// The word of process 0 after a recover from its physical checkpoint, 0, and an entry of its message log: the body,
+// received on this channel.
+pub fn replayed(channel: u32) -> u32 {
+    let alone = sized(1, 0);
+    let mut store = [RUBBISH; STORE_CELLS];
+    engine::initialize(alone, &mut store);
+    store[COUNT_OF_PROCESS_0] = 1;
+    store[FIRST_BODY] = BODY;
+    store[FIRST_CHANNEL] = channel;
+    let started = recovery::recover(alone, &store);
     let state = started.state;
     state.words[0]
-}
-
-// An initialize and a recover on a store that is a cell short.
-pub fn short_start(ok: bool, t: Topology, answer: u64) -> bool {
-    let mut store = [RUBBISH; SHORT];
-    let first = engine::initialize(t, &mut store);
-    let kept = hand::untouched(&store);
-    let again = recovery::recover(t, &store);
-    let one = first.start;
-    let two = again.start;
-    start_number(one) == answer && start_number(two) == answer && kept && ok
-}
-
-// A plan: a recover with it, and a begin in a state with it.
-pub fn bad_plan(ok: bool, processes: u8, channels: u8, ends: u16, answer: u64) -> bool {
-    let begun = hand::tried(ok, hand::planned(processes, channels, ends), 3, 0, 15);
-    recovered(
-        begun,
-        hand::plan(processes, channels, ends),
-        262,
-        RUBBISH,
-        answer,
-    )
-}
-
-// One process: a recover at line k, the last but one, a whole round, and a begin after it, also after a recover.
-pub fn last_line(k: u32) -> bool {
-    let mut store = [0; STORE_CELLS];
-    store[0] = k;
-    let old = recovery::recover(hand::plan(1, 0, 0), &store);
-    let idle = old.state;
-    let begun = engine::step(idle, hand::step(3, 0), &mut store, LAST);
-    let physical = begun.state;
-    let copied = engine::step(physical, hand::step(4, 0), &mut store, LAST);
-    let logical = copied.state;
-    let marked = engine::step(logical, hand::step(5, 0), &mut store, LAST);
-    let ready = marked.state;
-    let done = engine::step(ready, hand::step(7, 0), &mut store, LAST);
-    let last = done.state;
-    let new = recovery::recover(hand::plan(1, 0, 0), &store);
-    let again = new.state;
-    let before = idle.round;
-    let during = physical.round;
-    let mut ok = before.line == k && during.line == k && store[0] == LAST;
-    ok = hand::tried(hand::tried(ok, idle, 3, 0, 1100), physical, 4, 0, 1100);
-    ok = hand::tried(hand::tried(ok, logical, 5, 0, 100), ready, 7, 0, 1100);
-    hand::tried(hand::tried(ok, last, 3, 0, 13), again, 3, 0, 13)
 }

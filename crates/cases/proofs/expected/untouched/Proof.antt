@@ -1,8 +1,8 @@
 use borrow.Author.Needs.{needs}
 use Prim.Native.Nat.{_-_}
 use lib.ListN.{length}
-use Rattle.cases.proofs.hand.untouched.Statement.{statement}
-use Rattle.cases.proofs.hand.untouched.Tie as tie
+use Rattle.cases.proofs.expected.untouched.Statement.{statement}
+use Rattle.cases.proofs.expected.untouched.Tie as tie
 
 abbrev Inv-loop : tie.InvT-loop
 Inv-loop store i₀ i = Unit
