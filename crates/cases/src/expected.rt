@@ -2,12 +2,10 @@
 use crate::hand::RUBBISH;
 use crate::hand::STORE_CELLS;
 use libc::STDOUT_FILENO;
+use model::FULL_BUDGET;
 use model::Outcome;
 use model::State;
 use model::Step;
-
-// More writes than any step makes: document 01's full current.
-const FULL_POWER: u32 = 4294967295;
 
 // An answer as a line of document 01's listing has it: a word, by its first letter, the number after it (0 where there
 // is none), and the writes made.
@@ -87,7 +85,7 @@ pub fn from(state: State) -> Trial {
 // After one more step.
 pub fn then(trial: Trial, step: Step, store: &mut [u32], expected: Told) -> Trial {
     let before = trial.state;
-    let answer = engine::step(before, step, store, FULL_POWER);
+    let answer = engine::step(before, step, store, FULL_BUDGET);
     let outcome = answer.outcome;
     let ok = trial.ok && same(as_told(outcome, answer.made), expected);
     let state = answer.state;

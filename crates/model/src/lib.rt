@@ -146,6 +146,9 @@ pub enum Outcome {
     PowerLost,
 }
 
+// Full current: more writes than any step makes.
+pub const FULL_BUDGET: u32 = u32::MAX;
+
 // A step's answer: its outcome, how many writes it made, and the state after it.
 pub struct Answer {
     pub outcome: Outcome,

@@ -1,6 +1,7 @@
 // A part of a list, run from setup with full current, up to its first refusal.
 use crate::part::Part;
 use model::CallList;
+use model::FULL_BUDGET;
 use model::LISTED;
 use model::Outcome;
 use model::Record;
@@ -16,9 +17,6 @@ ghost use Rattle.model.specs.Outcome.{refusalNumber, refusalOf, refusedWith, ro
 ghost use Rattle.model.specs.CallList.{replies, firstFailure};
 ghost use Rattle.reduction.specs.Parts.{Held};
 ghost use Rattle.reduction.specs.Replays.{Replays, repliesFrom, calls, endsWith};
-
-// More writes than any step makes.
-const FULL: u32 = u32::MAX;
 
 // How a run ends: at a refused call, which is the part's i-th, counted from 0; or with none refused.
 pub enum End {
@@ -75,7 +73,7 @@ fn run(topology: Topology, list: CallList, part: Part, first: State, store: &mut
         let mut left = 0;
         match content {
             Record::Call(step) => {
-                let answer = engine::step(state, step, store, FULL);
+                let answer = engine::step(state, step, store, FULL_BUDGET);
                 let outcome = answer.outcome;
                 if let Verdict::Refuse(r) = verdict(outcome) {
                     let end = End::Refused(i, r);

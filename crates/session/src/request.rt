@@ -1,4 +1,5 @@
 // A request: a record, and the write budget that it is called with.
+use model::FULL_BUDGET;
 use model::Record;
 use record::RecordRead;
 ghost use mathlib.Core.Path.{_≡_};
@@ -10,9 +11,6 @@ pub enum BudgetSource {
     Full,
     Given,
 }
-
-// More writes than any step makes.
-const FULL: u32 = u32::MAX;
 
 // How many bytes a given budget has.
 const BUDGET_BYTES: usize = 4;
@@ -33,7 +31,7 @@ fn budget_of(source: BudgetSource, bytes: &[u8]) -> Budget
     ensures { λ r. ⌜ r ≡ budgeted (readBudget (sourceOf source) (now (bytes .entry))) ⌝ }
 {
     if let BudgetSource::Full = source {
-        return Budget::Lasts(FULL);
+        return Budget::Lasts(FULL_BUDGET);
     }
     if bytes.len() < BUDGET_BYTES {
         return Budget::Malformed;

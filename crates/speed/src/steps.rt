@@ -4,6 +4,7 @@ use crate::input::scripted;
 use crate::sum::fold;
 use crate::sum::outcome_code;
 use crate::sum::whole_sum;
+use model::FULL_BUDGET;
 use model::Topology;
 use rules::layout::STORE_CELLS;
 
@@ -18,7 +19,7 @@ fn turn(before: Tally, number: u32, script: &[u8], store: &mut [u32]) -> Tally {
     let mut left = script;
     while SCRIPTED <= left.len() {
         let step = scripted(left, number);
-        let answer = engine::step(state, step, store, 4294967295);
+        let answer = engine::step(state, step, store, FULL_BUDGET);
         let outcome = answer.outcome;
         sum = fold(fold(sum, outcome_code(outcome)), answer.made);
         state = answer.state;
