@@ -1,5 +1,5 @@
-# Reads the lists and then, with citations.awk, the documents (see tests/theorems), and each source that a list names, in
-# the layout of rt fmt.
+# Reads the lists and then, with citations.awk, the documents (see tests/theorems), and each source that a list names,
+# in the layout of rt fmt.
 
 # Each complaint once.
 function complain(text) {
