@@ -20,11 +20,11 @@ function span(text, between) {
     if (!(text in proved)) complain(FILENAME ":" FNR ": cites " text ", of which no theorem is listed")
 }
 
-# The first line of a table: which of its columns have the word theorem at their head
+# The first line of a table: which of its columns are headed Theorem
 function heading(line,    n, cell, i) {
     split("", headed)
     n = split(line, cell, "|")
-    for (i = 2; i <= n; i++) if (cell[i] ~ /[Tt]heorem/) headed[i - 1]
+    for (i = 2; i <= n; i++) if (cell[i] ~ /^ *Theorems? *$/) headed[i - 1]
 }
 
 # A text in backquotes can go on in the next line, but not past an empty one.
