@@ -16,7 +16,7 @@ use Rattle.model.proofs.store.Sizes.{Sized}
 use Rattle.model.proofs.store.Addresses.{Within, Of, line-outside, one-physical, physical-within, log-within, one-log}
 use Rattle.model.proofs.store.Addresses.{no-log}
 use Rattle.migration.specs.Carry.{processWrites, bodiesWrites}
-use Rattle.migration.proofs.Left.{Leaves, Spares, leaves-one, leaves-first, leaves-last, leaves-concat}
+use Rattle.migration.proofs.Left.{LeavesIn, Spares, leaves-one, leaves-first, leaves-last, leaves-concat}
 use Rattle.migration.proofs.Left.{cells-leave}
 
 -- logs told apart by a number
@@ -92,11 +92,11 @@ module _ {G : Form} {T : Topology} {target : List ℕ} (sized : Sized G T target
   abbrev pub all : List Write
   all = processes ++ channels ++ commitWrites k
 
-  pub line-left : Leaves all lineCell k
+  pub line-left : LeavesIn all lineCell k
   unfolding commitWrites
   line-left = leaves-last (processes ++ channels) (leaves-one (record { cell = lineCell; value = k }))
 
-  pub physical-left : (p : ℕ) → p < T .processes → Leaves all (physicalCell G k p) (word p)
+  pub physical-left : (p : ℕ) → p < T .processes → LeavesIn all (physicalCell G k p) (word p)
   physical-left p l =
       let a : ℕ = physicalCell G k p in
       let count : Write = record { cell = countCell G k (messageLog p); value = 0 } in
@@ -108,7 +108,7 @@ module _ {G : Form} {T : Topology} {target : List ℕ} (sized : Sized G T target
       (λ q m h. physical-spared p q l m h)) channels
       (channels-spare-physical p l)) (commitWrites k) (line-spares a (physical-within sized k p l))
 
-  pub message-left : (p : ℕ) → p < T .processes → Leaves all (countCell G k (messageLog p)) 0
+  pub message-left : (p : ℕ) → p < T .processes → LeavesIn all (countCell G k (messageLog p)) 0
   message-left p l =
       let log : Log = messageLog p in
       let a : ℕ = countCell G k log in
@@ -123,8 +123,8 @@ module _ {G : Form} {T : Topology} {target : List ℕ} (sized : Sized G T target
       (commitWrites k) (line-spares a (log-within sized k log a l (counts log)))
 
   -- a cell of a channel's log is as that channel's writes leave it
-  channel-left : (c : ℕ) → c < T .channels → (a v : ℕ) → Of G k (channelLog c) a → Leaves (channel c) a v
-      → Leaves all a v
+  channel-left : (c : ℕ) → c < T .channels → (a v : ℕ) → Of G k (channelLog c) a → LeavesIn (channel c) a v
+      → LeavesIn all a v
   channel-left c l a v own h =
       leaves-first
       (leaves-last processes
@@ -132,14 +132,14 @@ module _ {G : Form} {T : Topology} {target : List ℕ} (sized : Sized G T target
       (λ d m o. channel-spares d (channelLog c) a m l own (λ e. o (omega (arith, ap owner e))))))
       (commitWrites k) (line-spares a (log-within sized k (channelLog c) a l own))
 
-  pub count-left : (c : ℕ) → c < T .channels → Leaves all (countCell G k (channelLog c)) (length (bodies c))
+  pub count-left : (c : ℕ) → c < T .channels → LeavesIn all (countCell G k (channelLog c)) (length (bodies c))
   count-left c l =
       let at : ℕ = countCell G k (channelLog c) in
       channel-left c l at (length (bodies c)) (counts (channelLog c))
       (leaves-last (cellWrites (at + 1) (bodies c)) (leaves-one (record { cell = at; value = length (bodies c) })))
 
   pub body-left : (c i : ℕ) → c < T .channels → i < length (bodies c)
-      → Leaves all (countCell G k (channelLog c) + 1 + i) (getD (bodies c) i 0)
+      → LeavesIn all (countCell G k (channelLog c) + 1 + i) (getD (bodies c) i 0)
   body-left c i l m =
       let at : ℕ = countCell G k (channelLog c) in
       channel-left c l (at + 1 + i) (getD (bodies c) i 0)

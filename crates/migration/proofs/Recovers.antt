@@ -28,7 +28,7 @@ use Rattle.model.proofs.store.Readable.{bodies-are}
 use Rattle.migration.specs.Carry.{processesWrites, channelsWrites, carryWrites}
 use Rattle.migration.specs.Faithful.{Alike}
 use Rattle.migration.proofs.Admitting.{Carriable}
-use Rattle.migration.proofs.Left.{Leaves}
+use Rattle.migration.proofs.Left.{LeavesIn}
 use Rattle.migration.proofs.Landing.{line-left, physical-left, message-left, count-left, body-left}
 
 module _ (F G : Form) (T : Topology) (source target : List ℕ) (r : Carriable F G T source target) where
@@ -60,7 +60,7 @@ module _ (F G : Form) (T : Topology) (source target : List ℕ) (r : Carriable F
   fit c l = rw (bodies-length c) (r .readable .fits (channelLog c) l)
 
   -- the value that the carry leaves in a cell
-  left : (a v : ℕ) → a < length target → Leaves (carryWrites F G T source) a v → cell after a ≡ v
+  left : (a v : ℕ) → a < length target → LeavesIn (carryWrites F G T source) a v → cell after a ≡ v
   left a v l h = h .holds target l
 
   line-is : storedLine after ≡ k
