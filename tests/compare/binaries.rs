@@ -3,11 +3,12 @@
 use crate::carried;
 use crate::judge;
 use crate::runner;
-use crate::seen::Seen;
+use crate::seen::{Seen, AS_LONG, LONGER};
 use crate::watcher::Watcher;
 use reference::console;
 use reference::migrate::{DOWNGRADE, UPGRADE};
-use reference::program::{self, Program, Unwatched, INPUT};
+use reference::program::{self, Program, Unwatched};
+use std::cmp::Ordering;
 use std::path::{Path, PathBuf};
 
 pub const PROGRAMS: [Program; 4] =
@@ -32,8 +33,10 @@ impl Binaries {
     /// Runs the reference and the binary on an input.
     pub fn compare(&self, program: Program, bytes: &[u8], seen: &mut Seen) -> Option<Failure> {
         let path = self.path(program)?;
-        if bytes.len() > INPUT {
-            seen.count(program, ("input", "longer than is taken", 0));
+        match bytes.len().cmp(&program.takes()) {
+            Ordering::Less => (),
+            Ordering::Equal => seen.count(program, AS_LONG),
+            Ordering::Greater => seen.count(program, LONGER),
         }
         match (program, bytes) {
             (Program::Head | Program::Drill, _) => hold(path, program, bytes, seen),
@@ -62,7 +65,7 @@ fn judge(path: &Path, bytes: &[u8], seen: &mut Seen) -> Option<Failure> {
         Ok(got) => Some(judge::judge(bytes, got, seen).err()?),
         Err(_) => None,
     };
-    Some(Failure { expected: console::run(bytes).into_bytes(), got, why })
+    Some(Failure { expected: console::run(bytes), got, why })
 }
 
 /// Byte for byte; and a store that was carried, there and back, by restarts.

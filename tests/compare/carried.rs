@@ -4,11 +4,15 @@
 
 use crate::seen::Seen;
 use crate::sights;
+use reference::console::REDUCE;
 use reference::forms::Form;
 use reference::migrate::{Carriage, DOWNGRADE, UPGRADE};
 use reference::program::{self, rubbish, Program, Unwatched};
 use reference::state::State;
 use reference::topology::Topology;
+
+/// What comes before the cells that are shown.
+pub const DONE: &[u8] = b"done\n";
 
 /// Runs the program that is judged on a further input.
 pub type Run<'a> = &'a dyn Fn(&[u8]) -> Result<Vec<u8>, String>;
@@ -35,6 +39,9 @@ pub fn judge(
     for sight in sights::of(input) {
         seen.count(program, sight);
     }
+    if input.first() != Some(&REDUCE) && line(output) != line(&by_the_other(program, input)) {
+        return Err("the other of the two programs says something else".to_string());
+    }
     let Ok(carriage) = Carriage::read(input) else {
         return Ok(());
     };
@@ -44,6 +51,16 @@ pub fn judge(
     there_and_back(program, input[0], &carriage, output, run, &source)?;
     seen.carried += 1;
     Ok(())
+}
+
+/// What the reference prints in the place of the other of the two programs.
+fn by_the_other(program: Program, input: &[u8]) -> Vec<u8> {
+    let other = if program == Program::Console { Program::Converter } else { Program::Console };
+    program::run(other, input, &mut Unwatched)
+}
+
+fn line(output: &[u8]) -> Option<&[u8]> {
+    output.split_inclusive(|&byte| byte == b'\n').next()
 }
 
 /// The target stands as the source does, and so does what comes back from it.
@@ -94,7 +111,8 @@ fn target(
         let before = rubbish(form.cells);
         (before.clone(), listed(before, output).ok_or("not `done` and cells, rising")?)
     } else {
-        (vec![0; form.cells], raw(output))
+        let bytes = output.strip_prefix(DONE).ok_or("not `done` and cells")?;
+        (vec![0; form.cells], raw(bytes))
     };
     if cells.len() != form.cells {
         return Err(format!("{} cells, and not {}", cells.len(), form.cells));
@@ -138,7 +156,7 @@ fn listed(mut cells: Vec<u32>, output: &[u8]) -> Option<Vec<u32>> {
     Some(cells)
 }
 
-/// The cells as `converter` prints them.
+/// The cells as `converter` prints them after `done`.
 pub fn raw(output: &[u8]) -> Vec<u32> {
     let (cells, _) = output.as_chunks();
     cells.iter().map(|&cell| u32::from_le_bytes(cell)).collect()

@@ -1,7 +1,7 @@
 //! M-102 tried on the reference itself: what no input of a program can show, and
 //! wrong stores that the judge has to find.
 
-use crate::carried::{self, input};
+use crate::carried::{self, input, DONE};
 use crate::directed::pair;
 use crate::plans;
 use crate::rng::Rng;
@@ -111,7 +111,8 @@ fn bytes(cells: &[(usize, u32)]) -> Vec<u8> {
     for &(cell, value) in cells {
         target[cell] = value;
     }
-    target.into_iter().flat_map(u32::to_le_bytes).collect()
+    let cells: Vec<u8> = target.into_iter().flat_map(u32::to_le_bytes).collect();
+    [DONE, &cells].concat()
 }
 
 fn passes(program: Program, output: &[u8]) -> bool {
@@ -158,9 +159,57 @@ pub fn wrong() -> bool {
     let other = texts.into_iter().all(|text| !passes(Program::Console, text));
     let falling = [&CARRIED[1..], &CARRIED[..1]].concat();
     let raw = bytes(&CARRIED);
-    let lengths = [0, raw.len() - 1, raw.len() - 4, 4 * OLD.cells];
+    let lengths = [0, 4, 5, raw.len() - 1, raw.len() - 4, 5 + 4 * OLD.cells];
     let short = lengths.into_iter().all(|length| !passes(Program::Converter, &raw[..length]));
-    another && left_out && one_more && other && short && !passes(Program::Console, &text(&falling))
+    let texts: [&[u8]; 3] = [b"refused 16\n", &raw[5..], &[b"done", &raw[5..]].concat()];
+    let unsaid = texts.into_iter().all(|text| !passes(Program::Converter, text));
+    let falling = !passes(Program::Console, &text(&falling));
+    another && left_out && one_more && other && short && unsaid && falling
+}
+
+/// Of a refused input both programs say the same line, and no other passes.
+pub fn refused_lines() -> bool {
+    let mut over = store();
+    over[OLD.message_log(1, 1)] = 65;
+    let one = Topology { processes: 1, channels: Vec::new() };
+    let answers: [(Vec<u8>, &str); 6] = [
+        (vec![], "refused 7\n"),
+        (vec![4, 1, 0], "refused 7\n"),
+        (vec![UPGRADE, 0, 0], "plan refused 1\n"),
+        (input(DOWNGRADE, &pair(), &store()), "refused 6\n"),
+        (input(UPGRADE, &pair(), &over), "refused 16\n"),
+        ([&input(UPGRADE, &one, &store())[..], &[0]].concat(), "refused 7\n"),
+    ];
+    let others: [&[u8]; 5] = [b"", b"refused 7", b"refused 3\n", DONE, &bytes(&[])];
+    [Program::Console, Program::Converter].into_iter().all(|program| {
+        let run = |input: &[u8]| Ok(reference::program::run(program, input, &mut Unwatched));
+        let passes = |input: &[u8], output: &[u8]| {
+            carried::judge(program, input, output, &run, &mut Seen::default()).is_ok()
+        };
+        answers.iter().all(|(input, line)| {
+            run(input) == Ok(line.as_bytes().to_vec())
+                && passes(input, line.as_bytes())
+                && others.iter().all(|other| !passes(input, other))
+        })
+    })
+}
+
+/// A plan with one wire and 16,383 cells: the last byte that is taken completes
+/// them, and none after it is seen.
+pub fn last_byte() -> bool {
+    let one_wire = Topology { processes: 2, channels: vec![(0, 1)] };
+    let whole = input(UPGRADE, &one_wire, &[0; 16_383]);
+    let said = |program, input: &[u8]| {
+        let output = reference::program::run(program, input, &mut Unwatched);
+        output.strip_prefix(DONE).map(|cells| cells.len()).ok_or(output)
+    };
+    let short = Err(b"refused 7\n".to_vec());
+    whole.len() == 65_537
+        && said(Program::Converter, &whole) == Ok(4 * NEW.cells)
+        && said(Program::Converter, &[&whole[..], &[1]].concat()) == Ok(4 * NEW.cells)
+        && said(Program::Converter, &whole[..65_536]) == short
+        && said(Program::Console, &whole).is_ok()
+        && said(Program::Console, &whole[..65_536]) == short
 }
 
 /// A way back that gives another store is found.

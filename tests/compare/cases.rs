@@ -15,7 +15,7 @@ type Case = (&'static str, fn() -> bool);
 
 /// Tries every case: how many there are, or the names of those that fail.
 pub fn all() -> Result<usize, Vec<&'static str>> {
-    let cases: [Case; 31] = [
+    let cases: [Case; 34] = [
         ("the listing", listing),
         ("one board gives line 1", one_board),
         ("8th entry passes, 9th send is 9; empty wire is 10", wire_full),
@@ -37,6 +37,7 @@ pub fn all() -> Result<usize, Vec<&'static str>> {
         ("counts over their places: 16", counts_over),
         ("order of refusals", order),
         ("lines of console", verdicts::lines),
+        ("the last byte that console takes", verdicts::last_byte),
         ("right answers of console", verdicts::right),
         ("wrong answers of console", verdicts::wrong),
         ("words by the old rule", carries::old_words),
@@ -47,6 +48,8 @@ pub fn all() -> Result<usize, Vec<&'static str>> {
         ("a store carried by hand", carries::right),
         ("stores carried wrongly", carries::wrong),
         ("stores carried back wrongly", carries::wrong_way_back),
+        ("lines of a store that isn't carried", carries::refused_lines),
+        ("the last byte of a store that is taken", carries::last_byte),
     ];
     let failed: Vec<_> =
         cases.iter().filter(|(_, holds)| !holds()).map(|(name, _)| *name).collect();

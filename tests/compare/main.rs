@@ -34,6 +34,7 @@ mod walk;
 mod watcher;
 
 use binaries::{Binaries, PROGRAMS};
+use carried::DONE;
 use lists::List;
 use reference::console::hexadecimal;
 use reference::program::Program;
@@ -68,11 +69,13 @@ fn beginning(text: &str) -> String {
 
 /// An output as lines; of raw cells those that aren't 0.
 fn readable(program: Program, output: &[u8]) -> String {
-    if program == Program::Converter {
-        let cells = carried::raw(output);
-        return format!("{} bytes\n{}", output.len(), simplify::listed(&cells));
+    match output.strip_prefix(DONE) {
+        Some(bytes) if program == Program::Converter => {
+            let cells = carried::raw(bytes);
+            format!("done, {} bytes\n{}", bytes.len(), simplify::listed(&cells))
+        }
+        _ => String::from_utf8_lossy(output).into_owned(),
     }
-    String::from_utf8_lossy(output).into_owned()
 }
 
 fn tell(binaries: &Binaries, list: &List, shrinking: Duration) {

@@ -49,12 +49,21 @@ pub fn others() -> Vec<List> {
         refused_plans(&mut lists, way);
         long_inputs(&mut lists, way);
     }
-    for first in [None, Some(0), Some(1), Some(4), Some(255)] {
-        let name = format!("first byte {first:?}, for no store");
-        let bytes = first.into_iter().chain(LISTING.iter().copied()).collect();
-        lists.push(list(&name, Program::Converter, if first.is_none() { vec![] } else { bytes }));
-    }
+    nothing_known(&mut lists);
     lists
+}
+
+/// What `converter` isn't asked: nothing, and other first bytes before the
+/// listing or a store. (`console` has such bytes among its questions.)
+fn nothing_known(lists: &mut Vec<List>) {
+    lists.push(list("no input, for no store", Program::Converter, Vec::new()));
+    for first in [0, 1, 4, 255] {
+        let listing = [&[first], LISTING].concat();
+        for (name, bytes) in [("listing", listing), ("store", by_hand(OLD, 1).input(first))] {
+            let name = format!("byte {first}, {name}");
+            lists.push(list(&name, Program::Converter, bytes));
+        }
+    }
 }
 
 /// The store that calls leave on one full of rubbish.
@@ -212,12 +221,17 @@ fn refused_plans(lists: &mut Vec<List>, (asked, form, _): Way) {
     }
 }
 
-/// Inputs about as long as is taken. What is taken of a longer one is never a
-/// plan and whole cells.
+/// Inputs about as long as is taken. What is taken of a longer one is a plan and
+/// whole cells where the plan has one wire, and never where it has two.
 fn long_inputs(lists: &mut Vec<List>, (asked, form, _): Way) {
-    for length in [INPUT - 4, INPUT - 3, INPUT - 1, INPUT, INPUT + 1, INPUT + 3, 2 * INPUT + 1] {
-        let mut bytes = by_hand(form, 1).input(asked);
-        bytes.resize(length, 9);
-        both(lists, &format!("{length} bytes, for a store"), bytes);
+    let longest = 1 + INPUT;
+    for wires in 1..=2 {
+        for length in [longest - 4, longest - 1, longest, longest + 1, longest + 4, 2 * longest] {
+            let mut source = by_hand(form, 1);
+            source.topology.channels.truncate(wires);
+            let mut bytes = source.input(asked);
+            bytes.resize(length, 9);
+            both(lists, &format!("{length} bytes, for a store with {wires} wires"), bytes);
+        }
     }
 }

@@ -273,13 +273,21 @@ fn refused_plans(lists: &mut Vec<List>) {
     }
 }
 
-/// Inputs longer than is taken: whole up to there and broken after it, and the
-/// other way round.
+/// A list whose last record ends with the last byte that is taken.
+pub fn longest() -> Vec<u8> {
+    let bytes = [&[REDUCE, 1, 0][..], &[1, 9].repeat(INPUT / 2 - 1)].concat();
+    assert_eq!(bytes.len(), 1 + INPUT);
+    bytes
+}
+
+/// Inputs about as long as is taken, and longer: whole up to there and broken
+/// after it, broken by its last byte, and whole but for where it ends.
 fn lengths(lists: &mut Vec<List>) {
-    let whole = [&[REDUCE, 1, 0, 3, 4, 1][..], &[1, 9].repeat(INPUT / 2 - 3)].concat();
-    assert_eq!(whole.len(), INPUT);
+    let whole = longest();
     lists.push(list("as long as is taken", whole.clone()));
+    lists.push(list("a byte less than is taken", whole[..INPUT].to_vec()));
     lists.push(list("whole, then broken past the end", [&whole[..], &[0; 9]].concat()));
-    let longer = [&[REDUCE, 1, 0][..], &[1, 9].repeat(INPUT / 2)].concat();
+    lists.push(list("broken by the last byte", [&whole[..INPUT], &[10]].concat()));
+    let longer = [&[REDUCE, 1, 0, 3, 4, 1][..], &[1, 9].repeat(INPUT / 2)].concat();
     lists.push(list("broken only by the end of what is taken", longer));
 }

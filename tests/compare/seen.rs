@@ -8,6 +8,10 @@ use std::collections::BTreeMap;
 /// refusal's, the room that a send left, or the stores made at a lost power).
 pub type Sight = (&'static str, &'static str, u64);
 
+/// Inputs, by what a program takes of them.
+pub const AS_LONG: Sight = ("input", "as long as is taken", 0);
+pub const LONGER: Sight = ("input", "longer than is taken", 0);
+
 /// Takes, by document 01's rules.
 pub const PLAIN: &str = "idle, no log";
 pub const PLAIN_COPYING: &str = "copying, receiver not copied, no log";
@@ -140,7 +144,7 @@ fn required(program: Program) -> Vec<Sight> {
         Program::Console => [refusals(), reductions(), sights::required()].concat(),
         Program::Converter => [nothing(), sights::required()].concat(),
     };
-    [vec![("input", "longer than is taken", 0)], asked].concat()
+    [vec![AS_LONG, LONGER], asked].concat()
 }
 
 /// Every refusal of a plan, of bytes, and of a call; for `console` the call is
@@ -208,7 +212,7 @@ fn reductions() -> Vec<Sight> {
     sights
 }
 
-/// Inputs for which `converter` prints nothing, besides those that it refuses.
+/// Inputs that ask `converter` nothing known.
 fn nothing() -> Vec<Sight> {
     ["no input", "another first byte"].map(|what| ("nothing asked", what, 0)).to_vec()
 }

@@ -2,6 +2,7 @@
 //! what a run must see of them.
 
 use crate::seen::Sight;
+use reference::console::asked;
 use reference::forms::{Form, NEW, OLD};
 use reference::migrate::{DOWNGRADE, UPGRADE};
 use reference::program::{rubbish, INPUT};
@@ -47,11 +48,12 @@ const ELSEWHERE: [&str; 3] = [
     "a count over its places, of a board that isn't planned",
     "a count over its places, of a wire that isn't planned",
 ];
-const OTHERS: [&str; 4] = [
+const OTHERS: [&str; 5] = [
     "16 boards, 64 wires",
     "cells past the store's",
     "a word that its cell holds before",
     "a body that its cell holds before",
+    "all bytes that are taken",
 ];
 
 /// Everything that a run must see.
@@ -72,12 +74,11 @@ pub fn required() -> Vec<Sight> {
 
 /// What is seen of an input.
 pub fn of(input: &[u8]) -> Vec<Sight> {
-    let input = &input[..input.len().min(INPUT)];
-    match input {
-        [] => vec![("nothing asked", "no input", 0)],
-        [UPGRADE, asked @ ..] => UP.sights(asked),
-        [DOWNGRADE, asked @ ..] => DOWN.sights(asked),
-        _ => vec![("nothing asked", "another first byte", 0)],
+    match asked(input) {
+        Ok((UPGRADE, bytes)) => UP.sights(bytes),
+        Ok((DOWNGRADE, bytes)) => DOWN.sights(bytes),
+        Ok(_) => vec![("nothing asked", "another first byte", 0)],
+        Err(_) => vec![("nothing asked", "no input", 0)],
     }
 }
 
@@ -150,7 +151,8 @@ impl Way {
         let elsewhere = [half, over(other_boards, 64), over(other_wires, 8)];
         let [word, body] = self.kept(topology, cells);
         let largest = (processes, channels) == (PROCESSES, CHANNELS);
-        let others = [largest, cells.len() > self.from.cells, word, body];
+        let all = topology.write().len() + 4 * cells.len() == INPUT;
+        let others = [largest, cells.len() > self.from.cells, word, body, all];
         let mut what = named(lines, LINES);
         what.extend(named(logs, LOGS));
         what.extend(named(elsewhere, ELSEWHERE));

@@ -2,6 +2,7 @@
 //! of the judge, and of the reference's own `console`.
 
 use crate::judge::judge;
+use crate::reductions::longest;
 use crate::seen::Seen;
 use reference::console;
 
@@ -39,17 +40,28 @@ pub fn lines() -> bool {
     answers.iter().all(|(input, line)| {
         let part = "01 00\n01 03 # 1\n01 03 # 2 refused 12\n";
         let others = ["", line.trim_end(), "refused 18\n", part];
-        console::run(input) == *line
+        console::run(input) == line.as_bytes()
             && passes(input, line.as_bytes())
             && others.iter().all(|other| !passes(input, other.as_bytes()))
     })
+}
+
+/// The last byte that is taken, 65,536 bytes after the first, completes a record;
+/// none after it is seen.
+pub fn last_byte() -> bool {
+    let whole = longest();
+    let short = &whole[..65_536];
+    console::run(&whole) == b"refused 18\n"
+        && console::run(&[&whole[..], &[0]].concat()) == b"refused 18\n"
+        && console::run(&[short, &[10]].concat()) == b"refused 7\n"
+        && console::run(short) == b"refused 7\n"
 }
 
 /// Parts that may be printed; of one input there are two.
 pub fn right() -> bool {
     let alone = "02 01 00 01\n01 02 # 3 refused 10\n";
     let all = "02 01 00 01\n09 01 07 00 00 00 # 1 sent 7\n01 02 # 2\n01 02 # 3 refused 10\n";
-    console::run(TWICE) == TWICE_OUTPUT
+    console::run(TWICE) == TWICE_OUTPUT.as_bytes()
         && passes(TWICE, TWICE_OUTPUT.as_bytes())
         && passes(EMPTY, alone.as_bytes())
         && passes(EMPTY, all.as_bytes())

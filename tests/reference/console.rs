@@ -1,7 +1,8 @@
-//! The program `console` (issue 11, item 4): bytes in, bytes out. The first
-//! byte says what is asked: M-100's part, or a store carried by M-102.
+//! The program `console` (issue 11, item 4; issue 24, point 7): bytes in, bytes
+//! out. The first byte says what is asked, M-100's part or a store carried by
+//! M-102, and the first 65,536 bytes after it are what it is asked of.
 
-use crate::migrate::{self, refused};
+use crate::migrate;
 use crate::program::INPUT;
 use crate::record::{self, Record};
 use crate::reduce::RefusedList;
@@ -10,6 +11,22 @@ use std::fmt::Write;
 
 /// The first byte that asks for the part of a list that matters.
 pub const REDUCE: u8 = 1;
+
+/// What an input asks, and the bytes that it is asked of; 7 where it is empty.
+pub fn asked(input: &[u8]) -> Result<(u8, &[u8]), String> {
+    let (&first, others) = input.split_first().ok_or_else(|| refused(7))?;
+    Ok((first, &others[..others.len().min(INPUT)]))
+}
+
+/// The line of a refusal.
+pub fn refused(number: u8) -> String {
+    format!("refused {number}\n")
+}
+
+/// The line of a refused plan.
+pub fn plan_refused(number: u8) -> String {
+    format!("plan {}", refused(number))
+}
 
 /// An input that a part is printed for.
 pub struct Question<'a> {
@@ -22,13 +39,11 @@ pub struct Question<'a> {
 impl Question<'_> {
     /// Reads an input, or gives the line that is printed instead of a part.
     pub fn read(input: &[u8]) -> Result<Question<'_>, String> {
-        let input = &input[..input.len().min(INPUT)];
-        let Some((&REDUCE, asked)) = input.split_first() else {
+        let (REDUCE, bytes) = asked(input)? else {
             return Err(refused(7));
         };
-        let (topology, records) =
-            Topology::read(asked).map_err(|number| format!("plan {}", refused(number)))?;
-        let plan = &asked[..asked.len() - records.len()];
+        let (topology, records) = Topology::read(bytes).map_err(plan_refused)?;
+        let plan = &bytes[..bytes.len() - records.len()];
         let (calls, records) = read_all(records).map_err(refused)?;
         let list = RefusedList::new(topology, records).map_err(refused)?;
         Ok(Question { plan, calls, list })
@@ -67,12 +82,13 @@ pub fn hexadecimal(bytes: &[u8]) -> String {
 }
 
 /// The whole output for an input.
-pub fn run(input: &[u8]) -> String {
+pub fn run(input: &[u8]) -> Vec<u8> {
     if let [migrate::UPGRADE | migrate::DOWNGRADE, ..] = input {
         return migrate::text(input);
     }
-    match Question::read(input) {
+    let text = match Question::read(input) {
         Ok(question) => question.text(&question.list.reduce()),
         Err(line) => line,
-    }
+    };
+    text.into_bytes()
 }

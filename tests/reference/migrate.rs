@@ -1,8 +1,10 @@
 //! M-102: a store carried from one form to the other, and what `console` and
-//! `converter` print for it.
+//! `converter` print for it (issue 24, point 8): `done` and the target, which the
+//! one shows as lines and the other as bytes, or the same line of a refusal.
 
+use crate::console::{asked, plan_refused, refused};
 use crate::forms::{Form, NEW, OLD};
-use crate::program::{print_store, rubbish, INPUT};
+use crate::program::{print_store, rubbish};
 use crate::state::State;
 use crate::store::LINE;
 use crate::topology::Topology;
@@ -47,15 +49,14 @@ pub struct Carriage {
 impl Carriage {
     /// Reads an input, or gives the line that is printed instead.
     pub fn read(input: &[u8]) -> Result<Carriage, String> {
-        let input = &input[..input.len().min(INPUT)];
-        let (from, to, asked) = match input {
-            [UPGRADE, asked @ ..] => (OLD, NEW, asked),
-            [DOWNGRADE, asked @ ..] => (NEW, OLD, asked),
+        let (first, bytes) = asked(input)?;
+        let (from, to) = match first {
+            UPGRADE => (OLD, NEW),
+            DOWNGRADE => (NEW, OLD),
             _ => return Err(refused(7)),
         };
-        let (topology, bytes) =
-            Topology::read(asked).map_err(|number| format!("plan {}", refused(number)))?;
-        let (cells, []) = bytes.as_chunks() else {
+        let (topology, cells) = Topology::read(bytes).map_err(plan_refused)?;
+        let (cells, []) = cells.as_chunks() else {
             return Err(refused(7));
         };
         let source = cells.iter().map(|&cell| u32::from_le_bytes(cell)).collect();
@@ -68,33 +69,34 @@ impl Carriage {
         Ok(target)
     }
 
-    /// What `console` prints: `done`, and the cells that aren't what they were.
-    fn text(&self) -> Result<String, u8> {
+    /// What `console` prints after `done`: the cells that aren't what they were.
+    fn changed(&self) -> Result<Vec<u8>, u8> {
         let target = self.onto(rubbish(self.to.cells))?;
-        let mut text = "done\n".to_string();
+        let mut text = String::new();
         print_store(&mut text, &target);
-        Ok(text)
+        Ok(text.into_bytes())
     }
 
-    /// What `converter` prints: every cell of a target that starts as zeros.
-    fn bytes(&self) -> Result<Vec<u8>, u8> {
+    /// What `converter` prints after `done`: every cell of a target that starts
+    /// as zeros.
+    fn cells(&self) -> Result<Vec<u8>, u8> {
         let target = self.onto(vec![0; self.to.cells])?;
         Ok(target.into_iter().flat_map(u32::to_le_bytes).collect())
     }
 }
 
-pub fn refused(number: u8) -> String {
-    format!("refused {number}\n")
+/// `done` and the target as it is shown, or the line of a refusal.
+fn told(input: &[u8], shown: fn(&Carriage) -> Result<Vec<u8>, u8>) -> Result<Vec<u8>, String> {
+    let target = shown(&Carriage::read(input)?).map_err(refused)?;
+    Ok([b"done\n", &target[..]].concat())
 }
 
-/// The whole output of `console`.
-pub fn text(input: &[u8]) -> String {
-    let text = |carriage: Carriage| carriage.text().map_err(refused);
-    Carriage::read(input).and_then(text).unwrap_or_else(|line| line)
+/// The whole output of `console`, where it is asked for a store.
+pub fn text(input: &[u8]) -> Vec<u8> {
+    told(input, Carriage::changed).unwrap_or_else(String::into_bytes)
 }
 
-/// The whole output of `converter`: nothing where there is no target.
-pub fn bytes(input: &[u8]) -> Vec<u8> {
-    let bytes = |carriage: Carriage| carriage.bytes().map_err(refused);
-    Carriage::read(input).and_then(bytes).unwrap_or_default()
+/// The whole output of `converter`.
+pub fn file(input: &[u8]) -> Vec<u8> {
+    told(input, Carriage::cells).unwrap_or_else(String::into_bytes)
 }

@@ -11,7 +11,8 @@ use crate::topology::Topology;
 use std::fmt::Write;
 use std::io::{self, Read};
 
-/// Bytes of standard input that a program takes.
+/// Bytes that a program takes: of standard input, or of what comes after the
+/// byte that says what is asked.
 pub const INPUT: usize = 65_536;
 
 #[derive(Clone, Copy, Debug, PartialEq, Eq, PartialOrd, Ord)]
@@ -25,6 +26,16 @@ pub enum Program {
     Console,
     /// As `console` where it is asked for a store; its cells are printed as bytes.
     Converter,
+}
+
+impl Program {
+    /// Bytes of standard input that it takes in all.
+    pub fn takes(self) -> usize {
+        match self {
+            Program::Head | Program::Drill => INPUT,
+            Program::Console | Program::Converter => 1 + INPUT,
+        }
+    }
 }
 
 /// Looks on while a program runs.
@@ -81,8 +92,8 @@ pub fn call(state: &mut State, store: &mut [u32], record: Record, budget: u64) -
 pub fn run(program: Program, input: &[u8], watch: &mut dyn Watch) -> Vec<u8> {
     match program {
         Program::Head | Program::Drill => run_calls(program, input, watch).into_bytes(),
-        Program::Console => console::run(input).into_bytes(),
-        Program::Converter => migrate::bytes(input),
+        Program::Console => console::run(input),
+        Program::Converter => migrate::file(input),
     }
 }
 
@@ -163,7 +174,7 @@ pub fn print_store(text: &mut String, store: &[u32]) {
 /// The program itself: standard input to standard output.
 pub fn main(program: Program) -> io::Result<()> {
     let mut input = Vec::new();
-    io::stdin().lock().take(INPUT as u64).read_to_end(&mut input)?;
+    io::stdin().lock().take(program.takes() as u64).read_to_end(&mut input)?;
     let output = run(program, &input, &mut Unwatched);
     io::Write::write_all(&mut io::stdout().lock(), &output)
 }
