@@ -9,12 +9,12 @@ use lib.Dec.{eqb}
 use native.Mathlib.Omega.{arith}
 use Rattle.model.specs.Program.{inputBytes}
 use Rattle.report.proofs.Printing.{whole-text}
-use Rattle.operator.specs.declared.Request.{Request}
-use Rattle.operator.specs.declared.Request.the-variants.{Reduction, Carry, Unknown}
-use Rattle.operator.specs.declared.carry.Direction.the-variants.{Upgrade, Downgrade}
+use Rattle.operator.specs.declared.Question.{Question}
+use Rattle.operator.specs.declared.Question.the-variants.{Reduction, Carry, Unknown}
+use Rattle.operator.specs.declared.carry.Way.the-variants.{Upgrade, Downgrade}
 use Rattle.operator.specs.Console.{reductionAsked, upgradeAsked, downgradeAsked, askedIn, answerTo, console}
 use Rattle.operator.specs.ConsoleText.{consoleBytes, Tells}
-use Rattle.operator.specs.Printing.{Answers}
+use Rattle.operator.specs.Printing.{Prints}
 
 pub asks-nothing : (bytes : List ℕ) → length bytes < 1 → Unknown ≡ askedIn bytes
 unfolding askedIn
@@ -30,10 +30,10 @@ unfolding askedIn
 asks [] l = absurd (omega arith)
 asks (b ∷ bytes) l = refl
 
--- how many bytes a request has at least: what is known has its first one
-abbrev pub fewest : Request → ℕ
+-- how many bytes a question has at least: what is known has its first one
+abbrev pub fewest : Question → ℕ
 fewest Reduction = 1
-fewest (Carry d) = 1
+fewest (Carry w) = 1
 fewest Unknown = 0
 
 pub known : (bytes : List ℕ) → fewest (askedIn bytes) ≤ length bytes
@@ -41,9 +41,9 @@ unfolding askedIn
 known [] = omega arith
 known (b ∷ bytes) = go (askedIn (b ∷ bytes))
   where
-    go : (x : Request) → fewest x ≤ length (b ∷ bytes)
+    go : (x : Question) → fewest x ≤ length (b ∷ bytes)
     go Reduction = omega arith
-    go (Carry d) = omega arith
+    go (Carry w) = omega arith
     go Unknown = omega arith
 
 -- the bytes after the first
@@ -55,9 +55,9 @@ pub few : {bytes : List ℕ} (input : List ℕ) → bytes ≡ take inputBytes in
 few {bytes} input e = rw (others bytes, length-drop, e, length-take) (omega arith)
 
 -- where the buffer is long enough, it holds the whole of an answer
-pub tells : (input : List ℕ) {bytes before after : List ℕ} {x : Request} {r : ℕ} → bytes ≡ take inputBytes input
+pub tells : (input : List ℕ) {bytes before after : List ℕ} {x : Question} {r : ℕ} → bytes ≡ take inputBytes input
     → x ≡ askedIn bytes → consoleBytes ≤ length before
-    → Answers (answerTo x (take (length bytes - 1) (drop 1 bytes))) before after r → Tells input before after r
+    → Prints (answerTo x (take (length bytes - 1) (drop 1 bytes))) before after r → Tells input before after r
 unfolding console
 tells input {bytes} {x = x} e a l p =
     let same : console input ≡ answerTo x (take (length bytes - 1) (drop 1 bytes)) = rw (← e, ← a, others bytes) in

@@ -1,4 +1,4 @@
--- Laws of requests 2 and 3: each way that the carrying of a store ends.
+-- Laws of questions 2 and 3: each way that the carrying of a store ends.
 use Prim.Native.Nat.{ℕ}
 use mathlib.Core.Path.{_≡_}
 use mathlib.Core.Bool.{true, false}
@@ -13,10 +13,10 @@ use Rattle.model.specs.Program.{planOf, planLength, planRefusal}
 use Rattle.migration.specs.Carry.{carry}
 use Rattle.migration.specs.Carries.{Carries}
 use Rattle.operator.specs.declared.carry.Ending.{Ending}
-use Rattle.operator.specs.Answer.{planRefused, refused}
+use Rattle.operator.specs.ConsoleAnswer.{planRefused, refused}
 use Rattle.operator.specs.Carrying.{cellsIn, areCells, carriedAnswer, cellsAnswer, sourceAnswer, carrying}
 use Rattle.operator.specs.Carrying.{endingIn}
-use Rattle.operator.specs.Printing.{Answers}
+use Rattle.operator.specs.Printing.{Prints}
 
 module _ (F G : Form) (bytes target : List ℕ) where
   pub ends-plan : {n : ℕ} → planRefusal bytes ≡ some n → planRefused n ≡ carrying F G bytes target
@@ -37,6 +37,6 @@ module _ (F G : Form) (bytes target : List ℕ) where
 
 -- what is printed of an ending is the answer's text
 pub ends-shown : (F G : Form) (bytes last : List ℕ) {r e : Ending} {start filled before after : List ℕ} {n : ℕ}
-    → r ≡ e → filled ≡ start → endingIn r last ≡ carrying F G bytes filled → Answers (endingIn e last) before after n
-    → Answers (carrying F G bytes start) before after n
+    → r ≡ e → filled ≡ start → endingIn r last ≡ carrying F G bytes filled → Prints (endingIn e last) before after n
+    → Prints (carrying F G bytes start) before after n
 ends-shown F G bytes last e s c a = rw (← s, ← c, e) a

@@ -10,12 +10,12 @@ use Rattle.model.specs.Program.{inputBytes}
 use Rattle.model.specs.Record.{bodyBytes}
 use Rattle.report.specs.Appends.{Appends, WholeText}
 use Rattle.report.proofs.Appending.{at-most}
-use Rattle.operator.specs.declared.Request.{Request}
-use Rattle.operator.specs.declared.Request.the-variants.{Carry}
-use Rattle.operator.specs.declared.carry.Direction.{Direction}
-use Rattle.operator.specs.declared.carry.Direction.the-variants.{Upgrade, Downgrade}
+use Rattle.operator.specs.declared.Question.{Question}
+use Rattle.operator.specs.declared.Question.the-variants.{Carry}
+use Rattle.operator.specs.declared.carry.Way.{Way}
+use Rattle.operator.specs.declared.carry.Way.the-variants.{Upgrade, Downgrade}
 use Rattle.operator.specs.declared.carry.Ending.{Ending}
-use Rattle.operator.specs.Answer.{carried}
+use Rattle.operator.specs.ConsoleAnswer.{carried}
 use Rattle.operator.specs.Carrying.{sourceForm, targetForm, carrying, endingIn}
 use Rattle.operator.specs.Console.{askedIn}
 use Rattle.operator.specs.File.{cellsBytes, fileOf, fileTo, file, fileBytes}
@@ -28,27 +28,27 @@ module _ {b a : List ℕ} {at r : ℕ} where
   cell-written v e t = subst (λ (ys : List ℕ). Appends 4 b at ys a r) e (at-most t (omega (arith, ap length e)))
 
 -- no form of a target has more cells than the new one
-pub cells-few : (d : Direction) → form.storeCells (targetForm d) ≤ storeCells
+pub cells-few : (w : Way) → form.storeCells (targetForm w) ≤ storeCells
 cells-few Upgrade = omega arith
 cells-few Downgrade = omega arith
 
 module _ {b a : List ℕ} {r : ℕ} where
   -- what is written of an ending
-  pub ends-filed : (d : Direction) (bytes last : List ℕ) {e f : Ending} → e ≡ f
-      → endingIn e last ≡ carrying (sourceForm d) (targetForm d) bytes (replicate storeCells 0)
-      → Appends fileBytes b 0 (fileOf (targetForm d) (endingIn f last)) a r
-      → Appends fileBytes b 0 (fileTo (Carry d) bytes) a r
+  pub ends-filed : (w : Way) (bytes last : List ℕ) {e f : Ending} → e ≡ f
+      → endingIn e last ≡ carrying (sourceForm w) (targetForm w) bytes (replicate storeCells 0)
+      → Appends fileBytes b 0 (fileOf (targetForm w) (endingIn f last)) a r
+      → Appends fileBytes b 0 (fileTo (Carry w) bytes) a r
   unfolding fileTo
-  ends-filed d bytes last same c t = rw (← c, same) t
+  ends-filed w bytes last same c t = rw (← c, same) t
 
-  pub cells-filed : (d : Direction) (last : List ℕ) {count : ℕ} → count ≡ form.storeCells (targetForm d)
+  pub cells-filed : (w : Way) (last : List ℕ) {count : ℕ} → count ≡ form.storeCells (targetForm w)
       → Appends (count * 4) b 0 (cellsBytes count last) a r
-      → Appends fileBytes b 0 (fileOf (targetForm d) (carried last)) a r
+      → Appends fileBytes b 0 (fileOf (targetForm w) (carried last)) a r
   unfolding fileOf
-  cells-filed d last e t = rw (← e) (at-most t (omega (arith, e, cells-few d)))
+  cells-filed w last e t = rw (← e) (at-most t (omega (arith, e, cells-few w)))
 
   -- where the buffer is long enough, it holds the whole file
-  pub filed : (input : List ℕ) {bytes : List ℕ} {x : Request} → bytes ≡ take inputBytes input → x ≡ askedIn bytes
+  pub filed : (input : List ℕ) {bytes : List ℕ} {x : Question} → bytes ≡ take inputBytes input → x ≡ askedIn bytes
       → WholeText (fileTo x (take (length bytes - 1) (drop 1 bytes))) b a r → WholeText (file input) b a r
   unfolding file
   filed input {bytes} e q t = rw (← e, ← q, ← others bytes) t

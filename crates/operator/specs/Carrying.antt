@@ -1,4 +1,4 @@
--- Requests 2 and 3, a store carried to the new form and back: "a plan as in `head`, then the source's cells, 4 bytes
+-- Questions 2 and 3, a store carried to the new form and back: "a plan as in `head`, then the source's cells, 4 bytes
 -- each, lowest first".
 use Prim.Native.Nat.{ℕ, _+_, _*_, _/_, _%_}
 use mathlib.Core.Bool.{Bool, true, false}
@@ -15,18 +15,18 @@ use Rattle.model.specs.Program.{planOf, planLength, planRefusal}
 use Rattle.model.specs.Record.{lowestFirst}
 use Rattle.migration.specs.Old.{old}
 use Rattle.migration.specs.Carry.{Carried, carry}
-use Rattle.operator.specs.declared.carry.Direction.{Direction}
-use Rattle.operator.specs.declared.carry.Direction.the-variants.{Upgrade, Downgrade}
+use Rattle.operator.specs.declared.carry.Way.{Way}
+use Rattle.operator.specs.declared.carry.Way.the-variants.{Upgrade, Downgrade}
 use Rattle.operator.specs.declared.carry.Ending.{Ending}
 use Rattle.operator.specs.declared.carry.Ending.the-variants.{PlanRefused, Refused, Done}
-use Rattle.operator.specs.Answer.{Answer, planRefused, refused, carried}
+use Rattle.operator.specs.ConsoleAnswer.{ConsoleAnswer, planRefused, refused, carried}
 
 -- the forms that a store is carried from and to
-abbrev pub sourceForm : Direction → Form
+abbrev pub sourceForm : Way → Form
 sourceForm Upgrade = old
 sourceForm Downgrade = present
 
-abbrev pub targetForm : Direction → Form
+abbrev pub targetForm : Way → Form
 targetForm Upgrade = present
 targetForm Downgrade = old
 
@@ -45,28 +45,28 @@ abbrev pub areCells : List ℕ → Bool
 areCells bytes = eqb (length bytes % 4) 0
 
 -- "It prints `done`, [..] or `refused n`"
-unfoldable pub carriedAnswer : Option ℕ → List ℕ → Answer
+unfoldable pub carriedAnswer : Option ℕ → List ℕ → ConsoleAnswer
 carriedAnswer (some n) target = refused n
 carriedAnswer none target = carried target
 
-unfoldable pub cellsAnswer : Bool → Form → Form → Topology → List ℕ → List ℕ → Answer
+unfoldable pub cellsAnswer : Bool → Form → Form → Topology → List ℕ → List ℕ → ConsoleAnswer
 cellsAnswer false F G T bytes target = refused 7
 cellsAnswer true F G T bytes target =
     let x : Carried = carry F G T (cellsIn bytes) target in carriedAnswer (x .refusal) (x .target)
 
 -- "after the plan's checks"; "the plan's own refusals as `plan refused n`"
-unfoldable pub sourceAnswer : Option ℕ → Form → Form → List ℕ → List ℕ → Answer
+unfoldable pub sourceAnswer : Option ℕ → Form → Form → List ℕ → List ℕ → ConsoleAnswer
 sourceAnswer (some n) F G bytes target = planRefused n
 sourceAnswer none F G bytes target =
     let cells : List ℕ = drop (planLength bytes) bytes in
     cellsAnswer (areCells cells) F G (planOf bytes) cells target
 
 -- what is answered to a plan and a source of form F, with a target of form G that holds this
-unfoldable pub carrying : Form → Form → List ℕ → List ℕ → Answer
+unfoldable pub carrying : Form → Form → List ℕ → List ℕ → ConsoleAnswer
 carrying F G bytes target = sourceAnswer (planRefusal bytes) F G bytes target
 
 -- what each case of the code's answer says, with what the target then holds
-abbrev pub endingIn : Ending → List ℕ → Answer
+abbrev pub endingIn : Ending → List ℕ → ConsoleAnswer
 endingIn (PlanRefused r) target = planRefused (refusalNumber r)
 endingIn (Refused r) target = refused (refusalNumber r)
 endingIn Done target = carried target

@@ -10,32 +10,32 @@ use Rattle.model.specs.declared.Record.{Record}
 use Rattle.model.specs.Program.{inputBytes, planOf, planLength, planRefusal}
 use Rattle.model.specs.Reduction.{Sought, refuses, finds, sought}
 use Rattle.report.specs.Changed.{startStore}
-use Rattle.operator.specs.declared.Request.{Request}
-use Rattle.operator.specs.declared.Request.the-variants.{Reduction, Carry, Unknown}
-use Rattle.operator.specs.declared.carry.Direction.the-variants.{Upgrade, Downgrade}
-use Rattle.operator.specs.Answer.{Answer, planRefused, refused, reduced}
+use Rattle.operator.specs.declared.Question.{Question}
+use Rattle.operator.specs.declared.Question.the-variants.{Reduction, Carry, Unknown}
+use Rattle.operator.specs.declared.carry.Way.the-variants.{Upgrade, Downgrade}
+use Rattle.operator.specs.ConsoleAnswer.{ConsoleAnswer, planRefused, refused, reduced}
 use Rattle.operator.specs.Carrying.{sourceForm, targetForm, carrying}
 use Rattle.operator.specs.Lists.{callsIn, brokenOff}
 
 -- "Otherwise one line, the first of these that applies": last, "`refused 18`; `refused 17`"
-unfoldable pub soughtAnswer : List ℕ → Topology → List Record → Sought → Answer
+unfoldable pub soughtAnswer : List ℕ → Topology → List Record → Sought → ConsoleAnswer
 soughtAnswer plan T calls (refuses n) = refused n
 soughtAnswer plan T calls (finds f) = reduced plan T calls f
 
 -- before them, "`refused 7` where the bytes after the plan aren't all records"
-unfoldable pub listAnswer : Bool → List ℕ → Topology → List Record → Answer
+unfoldable pub listAnswer : Bool → List ℕ → Topology → List Record → ConsoleAnswer
 listAnswer true plan T calls = refused 7
 listAnswer false plan T calls = soughtAnswer plan T calls (sought T calls)
 
 -- and first "`plan refused n` as `head` has it"
-unfoldable pub planAnswer : Option ℕ → List ℕ → Answer
+unfoldable pub planAnswer : Option ℕ → List ℕ → ConsoleAnswer
 planAnswer (some n) bytes = planRefused n
 planAnswer none bytes =
     let records : List ℕ = drop (planLength bytes) bytes in
     listAnswer (brokenOff records) (take (planLength bytes) bytes) (planOf bytes) (callsIn records)
 
--- request 1: "input as for `head`"
-unfoldable pub reduction : List ℕ → Answer
+-- question 1: "input as for `head`"
+unfoldable pub reduction : List ℕ → ConsoleAnswer
 reduction bytes = planAnswer (planRefusal bytes) bytes
 
 -- "the first of them says what is asked": 1 is the part of a list that matters, 2 a store carried to the new form, and
@@ -49,7 +49,7 @@ upgradeAsked = 2
 abbrev pub downgradeAsked : ℕ
 downgradeAsked = 3
 
-unfoldable pub askedIn : List ℕ → Request
+unfoldable pub askedIn : List ℕ → Question
 askedIn [] = Unknown
 askedIn (b ∷ bytes) =
     cond (eqb b reductionAsked) Reduction
@@ -57,11 +57,11 @@ askedIn (b ∷ bytes) =
 
 -- "No input, or a first byte that asks nothing known, prints `refused 7`." What a store is carried into "starts as cell
 -- i = 2,654,435,761 × i modulo 2^32, long enough".
-unfoldable pub answerTo : Request → List ℕ → Answer
+unfoldable pub answerTo : Question → List ℕ → ConsoleAnswer
 answerTo Reduction bytes = reduction bytes
-answerTo (Carry d) bytes = carrying (sourceForm d) (targetForm d) bytes startStore
+answerTo (Carry w) bytes = carrying (sourceForm w) (targetForm w) bytes startStore
 answerTo Unknown bytes = refused 7
 
 -- "it takes the first 65,536 bytes of standard input"
-unfoldable pub console : List ℕ → Answer
+unfoldable pub console : List ℕ → ConsoleAnswer
 console input = let bytes : List ℕ = take inputBytes input in answerTo (askedIn bytes) (drop 1 bytes)

@@ -19,7 +19,7 @@ use Rattle.report.specs.Hex.{planLineText, keptText, sentText, lastText, refuse
 use Rattle.report.specs.Text.{chars, planRefusedText}
 use Rattle.report.specs.Changed.{changedText}
 use Rattle.report.specs.TextBytes.{planLineBytes, sentBytes, lastBytes, cellBytes}
-use Rattle.operator.specs.Answer.{Answer, planRefused, refused, reduced, carried, PartIn}
+use Rattle.operator.specs.ConsoleAnswer.{ConsoleAnswer, planRefused, refused, reduced, carried, PartIn}
 use Rattle.operator.specs.Console.{console}
 
 -- whether a call is a send
@@ -54,7 +54,7 @@ abbrev pub doneText : List ℕ
 doneText = chars "done\n"
 
 -- "a line with the plan's bytes", and the part; the cells of a carried store; or one line
-unfoldable pub answerText : Answer → List ℕ → List ℕ
+unfoldable pub answerText : ConsoleAnswer → List ℕ → List ℕ
 answerText (planRefused n) part = planRefusedText n
 answerText (refused n) part = refusedText n
 answerText (reduced plan T calls f) part =

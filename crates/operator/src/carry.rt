@@ -1,4 +1,4 @@
-// Requests 2 and 3, a store carried to the new form and back: from a plan and the source's cells to the target.
+// Questions 2 and 3, a store carried to the new form and back: from a plan and the source's cells to the target.
 use crate::cells;
 use crate::cells::CELL_BYTES;
 use crate::cells::SOURCE_CELLS;
@@ -16,13 +16,13 @@ ghost use Rattle.migration.specs.Carry.{carry};
 ghost use Rattle.migration.specs.Carries.{Carries};
 ghost use Rattle.report.specs.Appends.{Appends};
 ghost use Rattle.report.specs.Changed.{startStore};
-ghost use Rattle.operator.specs.declared.Request.the-variants.{Carry};
+ghost use Rattle.operator.specs.declared.Question.the-variants.{Carry};
 ghost use Rattle.operator.specs.Carrying.{sourceForm, targetForm, carrying, endingIn};
 ghost use Rattle.operator.specs.File.{fileTo, fileBytes};
-ghost use Rattle.operator.specs.Printing.{Answers};
+ghost use Rattle.operator.specs.Printing.{Prints};
 
 // To the new form, or back.
-pub enum Direction {
+pub enum Way {
     Upgrade,
     Downgrade,
 }
@@ -35,21 +35,21 @@ pub enum Ending {
 }
 
 // With a plan and a source at hand.
-fn carried(direction: Direction, topology: Topology, source: &[u32], target: &mut [u32]) -> Verdict
-    ensures { λ r. ⌜ Carries (carry (sourceForm direction) (targetForm direction) topology (now (source .entry))
+fn carried(way: Way, topology: Topology, source: &[u32], target: &mut [u32]) -> Verdict
+    ensures { λ r. ⌜ Carries (carry (sourceForm way) (targetForm way) topology (now (source .entry))
         (now (target .entry))) r (now (target .exit)) ⌝ }
 {
-    match direction {
-        Direction::Upgrade => migration::upgrade(topology, source, target),
-        Direction::Downgrade => migration::downgrade(topology, source, target),
+    match way {
+        Way::Upgrade => migration::upgrade(topology, source, target),
+        Way::Downgrade => migration::downgrade(topology, source, target),
     }
 }
 
 // With the plan that the bytes begin with, and the cells in the bytes after it: into any target.
-fn carry(direction: Direction, bytes: &[u8], target: &mut [u32]) -> Ending
+fn carry(way: Way, bytes: &[u8], target: &mut [u32]) -> Ending
     requires { ⌜ length (now bytes) ≤ inputBytes ⌝ }
     ensures { λ r. ⌜ endingIn r (now (target .exit))
-        ≡ carrying (sourceForm direction) (targetForm direction) (now (bytes .entry)) (now (target .entry)) ⌝ }
+        ≡ carrying (sourceForm way) (targetForm way) (now (bytes .entry)) (now (target .entry)) ⌝ }
 {
     let reading = plan::read(bytes);
     let verdict = reading.verdict;
@@ -64,21 +64,21 @@ fn carry(direction: Direction, bytes: &[u8], target: &mut [u32]) -> Ending
     let mut source = [0u32; SOURCE_CELLS];
     cells::read(rest, &mut source);
     let count = rest.len() / CELL_BYTES;
-    match carried(direction, topology, &source[..count], target) {
+    match carried(way, topology, &source[..count], target) {
         Verdict::Refuse(r) => Ending::Refused(r),
         Verdict::Pass => Ending::Done,
     }
 }
 
 // What `console` prints of it, with a target full of rubbish.
-pub fn show(direction: Direction, bytes: &[u8], out: &mut [u8]) -> usize
+pub fn show(way: Way, bytes: &[u8], out: &mut [u8]) -> usize
     requires { ⌜ length (now bytes) ≤ inputBytes ⌝ }
-    ensures { λ r. ⌜ Answers (carrying (sourceForm direction) (targetForm direction) (now (bytes .entry)) startStore)
+    ensures { λ r. ⌜ Prints (carrying (sourceForm way) (targetForm way) (now (bytes .entry)) startStore)
         (now (out .entry)) (now (out .exit)) r ⌝ }
 {
     let mut target = [0u32; STORE_CELLS];
     report::cells::fill(&mut target);
-    match carry(direction, bytes, &mut target) {
+    match carry(way, bytes, &mut target) {
         Ending::PlanRefused(r) => report::plan_refused(out, 0, r),
         Ending::Refused(r) => report::refused_line(out, 0, r),
         Ending::Done => {
@@ -89,25 +89,25 @@ pub fn show(direction: Direction, bytes: &[u8], out: &mut [u8]) -> usize
 }
 
 // How many cells the target's form has.
-fn target_cells(direction: Direction) -> usize
-    ensures { λ r. ⌜ r ≡ storeCells (targetForm direction) ⌝ }
+fn target_cells(way: Way) -> usize
+    ensures { λ r. ⌜ r ≡ storeCells (targetForm way) ⌝ }
 {
-    match direction {
-        Direction::Upgrade => STORE_CELLS,
-        Direction::Downgrade => OLD_STORE_CELLS,
+    match way {
+        Way::Upgrade => STORE_CELLS,
+        Way::Downgrade => OLD_STORE_CELLS,
     }
 }
 
 // What `converter` writes of it, with a target of zeros.
-pub fn file(direction: Direction, bytes: &[u8], out: &mut [u8]) -> usize
+pub fn file(way: Way, bytes: &[u8], out: &mut [u8]) -> usize
     requires { ⌜ length (now bytes) ≤ inputBytes ⌝ }
     ensures { λ r. ⌜ Appends fileBytes (now (out .entry)) 0
-        (fileTo (Carry direction) (now (bytes .entry))) (now (out .exit)) r ⌝ }
+        (fileTo (Carry way) (now (bytes .entry))) (now (out .exit)) r ⌝ }
 {
     let mut target = [0u32; STORE_CELLS];
-    match carry(direction, bytes, &mut target) {
+    match carry(way, bytes, &mut target) {
         Ending::PlanRefused(_) => 0,
         Ending::Refused(_) => 0,
-        Ending::Done => cells::write(&target, target_cells(direction), out),
+        Ending::Done => cells::write(&target, target_cells(way), out),
     }
 }

@@ -1,12 +1,12 @@
 // The work of the programs `console` and `converter`: one function from the input's bytes to the output's bytes each.
-// The first byte says what is asked, and the others are that request's input.
+// The first byte says what is asked, and the others are that question's input.
 mod carry;
 mod cells;
 mod list;
 mod print;
 mod reduce;
 
-use crate::carry::Direction;
+use crate::carry::Way;
 use model::Refusal;
 ghost use mathlib.Core.Path.{_≡_};
 ghost use lib.ListN.{replicate};
@@ -16,7 +16,7 @@ ghost use Rattle.operator.specs.ConsoleText.{consoleBytes, Tells};
 ghost use Rattle.operator.specs.File.{file, fileBytes};
 
 // No output is longer than this: specs/ConsoleText.antt has the sum.
-const OUTPUT_BYTES: usize = 143456;
+const CONSOLE_BYTES: usize = 143456;
 
 // No file is longer than this: the cells of a store of the new form.
 const FILE_BYTES: usize = 21252;
@@ -30,17 +30,17 @@ const UPGRADE: u8 = 2;
 const DOWNGRADE: u8 = 3;
 
 // What the first byte asks.
-enum Request {
+enum Question {
     Reduction,
-    Carry(Direction),
+    Carry(Way),
     Unknown,
 }
 
 // A buffer that holds every output.
-pub fn buffer() -> [u8; OUTPUT_BYTES]
+pub fn buffer() -> [u8; CONSOLE_BYTES]
     ensures { λ r. ⌜ r ≡ replicate consoleBytes 0 ⌝ }
 {
-    [0; OUTPUT_BYTES]
+    [0; CONSOLE_BYTES]
 }
 
 // A buffer that holds every file.
@@ -50,40 +50,40 @@ pub fn file_buffer() -> [u8; FILE_BYTES]
     [0; FILE_BYTES]
 }
 
-fn asked(bytes: &[u8]) -> Request
+fn asked(bytes: &[u8]) -> Question
     ensures { λ r. ⌜ r ≡ askedIn (now (bytes .entry)) ⌝ }
 {
     if bytes.len() < 1 {
-        return Request::Unknown;
+        return Question::Unknown;
     }
     match bytes[0] {
-        REDUCTION => Request::Reduction,
-        UPGRADE => Request::Carry(Direction::Upgrade),
-        DOWNGRADE => Request::Carry(Direction::Downgrade),
-        _ => Request::Unknown,
+        REDUCTION => Question::Reduction,
+        UPGRADE => Question::Carry(Way::Upgrade),
+        DOWNGRADE => Question::Carry(Way::Downgrade),
+        _ => Question::Unknown,
     }
 }
 
 // What `console` prints for an input, and how many bytes that is.
-pub fn console(input: &[u8], out: &mut [u8; OUTPUT_BYTES]) -> usize
+pub fn console(input: &[u8], out: &mut [u8; CONSOLE_BYTES]) -> usize
     ensures { λ r. ⌜ Tells (now (input .entry)) (now (out .entry)) (now (out .exit)) r ⌝ }
 {
     let bytes = plan::taken(input);
     match asked(bytes) {
-        Request::Reduction => reduce::reduce(&bytes[1..], out),
-        Request::Carry(direction) => carry::show(direction, &bytes[1..], out),
-        Request::Unknown => report::refused_line(out, 0, Refusal::Malformed),
+        Question::Reduction => reduce::reduce(&bytes[1..], out),
+        Question::Carry(way) => carry::show(way, &bytes[1..], out),
+        Question::Unknown => report::refused_line(out, 0, Refusal::Malformed),
     }
 }
 
-// What `converter` writes for an input, and how many bytes that is: the store that requests 2 and 3 make of zeros.
+// What `converter` writes for an input, and how many bytes that is: the store that questions 2 and 3 make of zeros.
 pub fn convert(input: &[u8], out: &mut [u8; FILE_BYTES]) -> usize
     ensures { λ r. ⌜ WholeText (file (now (input .entry))) (now (out .entry)) (now (out .exit)) r ⌝ }
 {
     let bytes = plan::taken(input);
     match asked(bytes) {
-        Request::Reduction => 0,
-        Request::Carry(direction) => carry::file(direction, &bytes[1..], out),
-        Request::Unknown => 0,
+        Question::Reduction => 0,
+        Question::Carry(way) => carry::file(way, &bytes[1..], out),
+        Question::Unknown => 0,
     }
 }

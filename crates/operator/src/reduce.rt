@@ -1,4 +1,4 @@
-// Request 1, the part of a list that matters: from a plan and records to the lines of a part, or one line.
+// Question 1, the part of a list that matters: from a plan and records to the lines of a part, or one line.
 use crate::list;
 use crate::print;
 use model::Refusal;
@@ -8,11 +8,11 @@ ghost use Prim.Native.Nat.{_≤_};
 ghost use lib.ListN.{length};
 ghost use Rattle.model.specs.Program.{inputBytes};
 ghost use Rattle.operator.specs.Console.{reduction};
-ghost use Rattle.operator.specs.Printing.{Answers};
+ghost use Rattle.operator.specs.Printing.{Prints};
 
 pub fn reduce(bytes: &[u8], out: &mut [u8]) -> usize
     requires { ⌜ length (now bytes) ≤ inputBytes ⌝ }
-    ensures { λ r. ⌜ Answers (reduction (now (bytes .entry))) (now (out .entry)) (now (out .exit)) r ⌝ }
+    ensures { λ r. ⌜ Prints (reduction (now (bytes .entry))) (now (out .entry)) (now (out .exit)) r ⌝ }
 {
     let reading = plan::read(bytes);
     let verdict = reading.verdict;

@@ -1,4 +1,4 @@
--- `asked` meets its contract: no byte, the byte of a request, or another.
+-- `asked` meets its contract: no byte, the byte of a question, or another.
 use borrow.Author.Needs.{needs}
 use borrow.Author.Tests.{ne-eqb}
 use mathlib.Core.Path.{sym, _∙_}

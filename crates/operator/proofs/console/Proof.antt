@@ -1,4 +1,4 @@
--- `console` meets its contract: a request that is known, or nothing that is.
+-- `console` meets its contract: a question that is known, or nothing that is.
 use borrow.Author.Needs.{needs}
 use native.Mathlib.Omega.{arith}
 use Prim.Native.Nat.{_-_, _≤_}
@@ -11,7 +11,7 @@ use Rattle.operator.proofs.Lines.{line}
 use Rattle.operator.proofs.console.Statement.{statement}
 use Rattle.operator.proofs.console.Tie as tie
 
--- a request that is known has its first byte
+-- a question that is known has its first byte
 reduction-some : (c : tie.After-enum-told) → 1 ≤ length (c .before .before .before .taken .result .now)
 reduction-some c =
     let asked = c .before .before in
@@ -20,7 +20,7 @@ reduction-some c =
 carry-some : (c : tie.After-known-told) → 1 ≤ length (c .before .before .before .before .taken .result .now)
 carry-some c =
     let asked = c .before .before .before in
-    rw (sym (asked .asked .ensures) ∙ c .before .direction .given .1) at (known (asked .before .taken .result .now))
+    rw (sym (asked .asked .ensures) ∙ c .before .way .given .1) at (known (asked .before .taken .result .now))
 
 -- the bytes after it are no more than are taken
 taken-few : (c : tie.After-taken)
@@ -44,7 +44,7 @@ carries c =
     let asked = told .before .before in
     let t = asked .before in
     let start = t .before .before in
-    tells (start .args .input .now) (t .taken .ensures) (sym (told .direction .given .1) ∙ asked .asked .ensures)
+    tells (start .args .input .now) (t .taken .ensures) (sym (told .way .given .1) ∙ asked .asked .ensures)
     (omega (arith, start .good)) (c .show .ensures)
 
 unknown : tie.Need-returns-3

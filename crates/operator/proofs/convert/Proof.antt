@@ -13,11 +13,11 @@ use Rattle.operator.proofs.Files.{filed}
 use Rattle.operator.proofs.convert.Statement.{statement}
 use Rattle.operator.proofs.convert.Tie as tie
 
--- a request that is known has its first byte
+-- a question that is known has its first byte
 some : (c : tie.After-known-told) → 1 ≤ length (c .before .before .before .before .taken .result .now)
 some c =
     let asked = c .before .before .before in
-    rw (sym (asked .asked .ensures) ∙ c .before .direction .given .1) at (known (asked .before .taken .result .now))
+    rw (sym (asked .asked .ensures) ∙ c .before .way .given .1) at (known (asked .before .taken .result .now))
 
 -- the bytes after it are no more than are taken
 taken-few : (c : tie.After-taken)
@@ -38,7 +38,7 @@ carries c =
     let asked = told .before .before in
     let t = asked .before in
     let start = t .before .before in
-    filed (start .args .input .now) (t .taken .ensures) (sym (told .direction .given .1) ∙ asked .asked .ensures)
+    filed (start .args .input .now) (t .taken .ensures) (sym (told .way .given .1) ∙ asked .asked .ensures)
     (whole-text (c .file .ensures) (omega (arith, start .good)))
 
 unknown : tie.Need-returns-3

@@ -60,7 +60,7 @@ module _ (c : tie.After-carried) where
 
   ends : {v : Verdict} → c .carried .result ≡ v
       → carriedAnswer (refusalOf v) (c .carried .last .1 .1 .1 .0)
-      ≡ carrying (sourceForm (start (rest read) .args .direction)) (targetForm (start (rest read) .args .direction))
+      ≡ carrying (sourceForm (start (rest read) .args .way)) (targetForm (start (rest read) .args .way))
       (start (rest read) .args .bytes .now) (start (rest read) .args .target .now)
   ends e =
       let r = rest read in

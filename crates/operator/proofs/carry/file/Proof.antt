@@ -6,7 +6,7 @@ use mathlib.Core.Path.{_≡_}
 use mathlib.Core.List.{List}
 use Rattle.report.specs.Appends.{Appends}
 use Rattle.report.proofs.Appending.{nothing, at-most}
-use Rattle.operator.specs.declared.Request.the-variants.{Carry}
+use Rattle.operator.specs.declared.Question.the-variants.{Carry}
 use Rattle.operator.specs.declared.carry.Ending.{Ending}
 use Rattle.operator.specs.Carrying.{targetForm, endingIn}
 use Rattle.operator.specs.File.{fileOf, fileTo, fileBytes}
@@ -20,9 +20,9 @@ module _ (c : tie.After-carry) where
   start = c .before .before .before .before
 
   files : {e : Ending} {before after : List ℕ} {r : ℕ} → c .carry .result ≡ e
-      → Appends fileBytes before 0 (fileOf (targetForm (start .args .direction)) (endingIn e (c .carry .last .1 .1 .0)))
+      → Appends fileBytes before 0 (fileOf (targetForm (start .args .way)) (endingIn e (c .carry .last .1 .1 .0)))
       after r
-      → Appends fileBytes before 0 (fileTo (Carry (start .args .direction)) (start .args .bytes .now)) after r
+      → Appends fileBytes before 0 (fileTo (Carry (start .args .way)) (start .args .bytes .now)) after r
   files e t = ends-filed _ _ _ e (c .carry .ensures) t
 
 plan : tie.Need-returns
@@ -40,14 +40,14 @@ done c =
     let told = count .before .before in
     let call = told .before .before .before in
     files call (told .enum-told3 .given .1)
-    (cells-filed (start call .args .direction) _ (count .target-cells .ensures) (written .write .ensures))
+    (cells-filed (start call .args .way) _ (count .target-cells .ensures) (written .write .ensures))
 
 -- the target has as many cells as are written
 within : tie.Need-write-requires
 within c κs =
     let count = c .before in
     let call = count .before .before .before .before .before in
-    omega (arith, count .target-cells .ensures, cells-few (start call .args .direction), call .carry .kept .1 .1 .0)
+    omega (arith, count .target-cells .ensures, cells-few (start call .args .way), call .carry .kept .1 .1 .0)
 
 pub file-spec : {M : Type 1} → statement M
 file-spec =

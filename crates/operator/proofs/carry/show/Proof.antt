@@ -9,7 +9,7 @@ use Rattle.report.specs.Changed.{startStore}
 use Rattle.report.proofs.Changes.{start-length}
 use Rattle.operator.specs.declared.carry.Ending.{Ending}
 use Rattle.operator.specs.Carrying.{sourceForm, targetForm, carrying, endingIn}
-use Rattle.operator.specs.Printing.{Answers}
+use Rattle.operator.specs.Printing.{Prints}
 use Rattle.operator.proofs.Carrying.{ends-shown}
 use Rattle.operator.proofs.Lines.{plan-line, line, cells}
 use Rattle.operator.proofs.carry.show.Statement.{statement}
@@ -24,8 +24,8 @@ module _ (c : tie.After-carry) where
   start = filled .before .before .before .before
 
   answers : {e : Ending} {before after : List ℕ} {r : ℕ} → c .carry .result ≡ e
-      → Answers (endingIn e (c .carry .last .1 .1 .0)) before after r
-      → Answers (carrying (sourceForm (start .args .direction)) (targetForm (start .args .direction))
+      → Prints (endingIn e (c .carry .last .1 .1 .0)) before after r
+      → Prints (carrying (sourceForm (start .args .way)) (targetForm (start .args .way))
       (start .args .bytes .now) startStore) before after r
   answers e a = ends-shown _ _ _ _ e (filled .fill .ensures) (c .carry .ensures) a
 

@@ -9,14 +9,14 @@ use Rattle.model.specs.Reduction.{Smallest}
 
 -- an answer: a line alone; the part of a list that matters, of which the plan's bytes, the plan, the list's calls and
 -- its first failure are fixed; or what the target of a carried store then holds
-pub data Answer : Type 0 where
-  planRefused : ℕ → Answer
-  refused : ℕ → Answer
-  reduced : List ℕ → Topology → List Record → Failure → Answer
-  carried : List ℕ → Answer
+pub data ConsoleAnswer : Type 0 where
+  planRefused : ℕ → ConsoleAnswer
+  refused : ℕ → ConsoleAnswer
+  reduced : List ℕ → Topology → List Record → Failure → ConsoleAnswer
+  carried : List ℕ → ConsoleAnswer
 
 -- the parts that may stand in an answer: a smallest one, and none in another answer
-abbrev pub PartIn : Answer → List ℕ → Type 0
+abbrev pub PartIn : ConsoleAnswer → List ℕ → Type 0
 PartIn (planRefused n) part = part ≡ []
 PartIn (refused n) part = part ≡ []
 PartIn (reduced plan T calls f) part = Smallest T calls f part
