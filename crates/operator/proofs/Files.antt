@@ -1,12 +1,11 @@
 -- Laws of the file that `converter` writes: a cell's bytes, and each way that the carrying of a store ends.
-use Prim.Native.Nat.{ℕ, _-_, _*_, _≤_}
+use Prim.Native.Nat.{ℕ, _*_, _≤_}
 use mathlib.Core.Path.{_≡_, ap, subst}
 use mathlib.Core.List.{List}
-use lib.ListN.{length, take, drop, replicate}
+use lib.ListN.{length, replicate}
 use native.Mathlib.Omega.{arith}
 use Rattle.model.specs.Form as form
 use Rattle.model.specs.Layout.{storeCells}
-use Rattle.model.specs.Program.{inputBytes}
 use Rattle.model.specs.Record.{bodyBytes}
 use Rattle.report.specs.Appends.{Appends, WholeText}
 use Rattle.report.proofs.Appending.{at-most}
@@ -17,9 +16,8 @@ use Rattle.operator.specs.declared.carry.Way.the-variants.{Upgrade, Down
 use Rattle.operator.specs.declared.carry.Ending.{Ending}
 use Rattle.operator.specs.ConsoleAnswer.{carried}
 use Rattle.operator.specs.Carrying.{sourceForm, targetForm, carrying, endingIn}
-use Rattle.operator.specs.Console.{askedIn}
+use Rattle.operator.specs.Console.{askedIn, takenIn}
 use Rattle.operator.specs.File.{cellsBytes, fileOf, fileTo, file, fileBytes}
-use Rattle.operator.proofs.Asking.{others}
 
 module _ {b a : List ℕ} {at r : ℕ} where
   pub cell-written : {xs : List ℕ} (v : ℕ) → xs ≡ bodyBytes v → Appends (length xs) b at xs a r
@@ -48,7 +46,7 @@ module _ {b a : List ℕ} {r : ℕ} where
   cells-filed w last e t = rw (← e) (at-most t (omega (arith, e, cells-few w)))
 
   -- where the buffer is long enough, it holds the whole file
-  pub filed : (input : List ℕ) {bytes : List ℕ} {x : Question} → bytes ≡ take inputBytes input → x ≡ askedIn bytes
-      → WholeText (fileTo x (take (length bytes - 1) (drop 1 bytes))) b a r → WholeText (file input) b a r
+  pub filed : (input : List ℕ) {bytes : List ℕ} {x : Question} → bytes ≡ takenIn input → x ≡ askedIn input
+      → WholeText (fileTo x bytes) b a r → WholeText (file input) b a r
   unfolding file
-  filed input {bytes} e q t = rw (← e, ← q, ← others bytes) t
+  filed input e q t = rw (← e, ← q) t

@@ -1,5 +1,5 @@
 -- The program `console`, as data: what is asked, and what is answered.
-use Prim.Native.Nat.{ℕ}
+use Prim.Native.Nat.{ℕ, _+_}
 use mathlib.Core.Bool.{Bool, true, false, cond}
 use mathlib.Core.List.{List, [], _∷_}
 use mathlib.Core.Option.{Option, none, some}
@@ -38,8 +38,8 @@ planAnswer none bytes =
 unfoldable pub reduction : List ℕ → ConsoleAnswer
 reduction bytes = planAnswer (planRefusal bytes) bytes
 
--- "the first of them says what is asked": 1 is the part of a list that matters, 2 a store carried to the new form, and
--- 3 one carried back
+-- the first byte says what is asked: 1 is the part of a list that matters, 2 a store carried to the new form, and 3 one
+-- carried back
 abbrev pub reductionAsked : ℕ
 reductionAsked = 1
 
@@ -55,6 +55,13 @@ askedIn (b ∷ bytes) =
     cond (eqb b reductionAsked) Reduction
     (cond (eqb b upgradeAsked) (Carry Upgrade) (cond (eqb b downgradeAsked) (Carry Downgrade) Unknown))
 
+-- how many bytes are taken with it, and what it is asked of: the first 65,536 bytes after it
+abbrev pub takenBytes : ℕ
+takenBytes = 1 + inputBytes
+
+unfoldable pub takenIn : List ℕ → List ℕ
+takenIn input = take inputBytes (drop 1 input)
+
 -- "No input, or a first byte that asks nothing known, prints `refused 7`." What a store is carried into "starts as cell
 -- i = 2,654,435,761 × i modulo 2^32, long enough".
 unfoldable pub answerTo : Question → List ℕ → ConsoleAnswer
@@ -62,6 +69,5 @@ answerTo Reduction bytes = reduction bytes
 answerTo (Carry w) bytes = carrying (sourceForm w) (targetForm w) bytes startStore
 answerTo Unknown bytes = refused 7
 
--- "it takes the first 65,536 bytes of standard input"
 unfoldable pub console : List ℕ → ConsoleAnswer
-console input = let bytes : List ℕ = take inputBytes input in answerTo (askedIn bytes) (drop 1 bytes)
+console input = answerTo (askedIn input) (takenIn input)

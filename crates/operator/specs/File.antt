@@ -2,17 +2,16 @@
 -- the bytes of its cells.
 use Prim.Native.Nat.{ℕ, _*_}
 use mathlib.Core.List.{List, []}
-use lib.ListN.{take, drop, replicate}
+use lib.ListN.{replicate}
 use Rattle.model.specs.Notation.{concatBelow}
 use Rattle.model.specs.Form as form
 use Rattle.model.specs.Layout.{storeCells, cell}
-use Rattle.model.specs.Program.{inputBytes}
 use Rattle.model.specs.Record.{bodyBytes}
 use Rattle.operator.specs.declared.Question.{Question}
 use Rattle.operator.specs.declared.Question.the-variants.{Reduction, Carry, Unknown}
 use Rattle.operator.specs.ConsoleAnswer.{ConsoleAnswer, planRefused, refused, reduced, carried}
 use Rattle.operator.specs.Carrying.{sourceForm, targetForm, carrying}
-use Rattle.operator.specs.Console.{askedIn}
+use Rattle.operator.specs.Console.{askedIn, takenIn}
 
 -- the first n cells of a store, 4 bytes each, lowest first
 unfoldable pub cellsBytes : ℕ → List ℕ → List ℕ
@@ -33,7 +32,7 @@ fileTo (Carry w) bytes =
 fileTo Unknown bytes = []
 
 unfoldable pub file : List ℕ → List ℕ
-file input = let bytes : List ℕ = take inputBytes input in fileTo (askedIn bytes) (drop 1 bytes)
+file input = fileTo (askedIn input) (takenIn input)
 
 -- how many bytes it has at most, the new form's: 21,252
 abbrev pub fileBytes : ℕ

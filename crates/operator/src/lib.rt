@@ -1,5 +1,5 @@
 // The work of the programs `console` and `converter`: one function from the input's bytes to the output's bytes each.
-// The first byte says what is asked, and the others are that question's input.
+// The first byte says what is asked, and the first 65,536 bytes after it are what it is asked of.
 mod carry;
 mod cells;
 mod list;
@@ -11,9 +11,12 @@ use model::Refusal;
 ghost use mathlib.Core.Path.{_≡_};
 ghost use lib.ListN.{replicate};
 ghost use Rattle.report.specs.Appends.{WholeText};
-ghost use Rattle.operator.specs.Console.{askedIn};
+ghost use Rattle.operator.specs.Console.{takenBytes, askedIn, takenIn};
 ghost use Rattle.operator.specs.ConsoleText.{consoleBytes, Tells};
 ghost use Rattle.operator.specs.File.{file, fileBytes};
+
+// How many bytes of an input are taken: the one that asks, and 65,536 more.
+const TAKEN_BYTES: usize = 65537;
 
 // No output is longer than this: specs/ConsoleText.antt has the sum.
 const CONSOLE_BYTES: usize = 143456;
@@ -36,6 +39,13 @@ enum Question {
     Unknown,
 }
 
+// A buffer for all that is taken of an input.
+pub fn input_buffer() -> [u8; TAKEN_BYTES]
+    ensures { λ r. ⌜ r ≡ replicate takenBytes 0 ⌝ }
+{
+    [0; TAKEN_BYTES]
+}
+
 // A buffer that holds every output.
 pub fn buffer() -> [u8; CONSOLE_BYTES]
     ensures { λ r. ⌜ r ≡ replicate consoleBytes 0 ⌝ }
@@ -50,13 +60,13 @@ pub fn file_buffer() -> [u8; FILE_BYTES]
     [0; FILE_BYTES]
 }
 
-fn asked(bytes: &[u8]) -> Question
-    ensures { λ r. ⌜ r ≡ askedIn (now (bytes .entry)) ⌝ }
+fn asked(input: &[u8]) -> Question
+    ensures { λ r. ⌜ r ≡ askedIn (now (input .entry)) ⌝ }
 {
-    if bytes.len() < 1 {
+    if input.len() < 1 {
         return Question::Unknown;
     }
-    match bytes[0] {
+    match input[0] {
         REDUCTION => Question::Reduction,
         UPGRADE => Question::Carry(Way::Upgrade),
         DOWNGRADE => Question::Carry(Way::Downgrade),
@@ -64,14 +74,24 @@ fn asked(bytes: &[u8]) -> Question
     }
 }
 
+// What it is asked of.
+fn taken(input: &[u8]) -> &[u8]
+    ensures { λ r. ⌜ now r ≡ takenIn (now (input .entry)) ⌝ }
+{
+    if input.len() < 1 {
+        return input;
+    }
+    plan::taken(&input[1..])
+}
+
 // What `console` prints for an input, and how many bytes that is.
 pub fn console(input: &[u8], out: &mut [u8; CONSOLE_BYTES]) -> usize
     ensures { λ r. ⌜ Tells (now (input .entry)) (now (out .entry)) (now (out .exit)) r ⌝ }
 {
-    let bytes = plan::taken(input);
-    match asked(bytes) {
-        Question::Reduction => reduce::reduce(&bytes[1..], out),
-        Question::Carry(way) => carry::show(way, &bytes[1..], out),
+    let bytes = taken(input);
+    match asked(input) {
+        Question::Reduction => reduce::reduce(bytes, out),
+        Question::Carry(way) => carry::show(way, bytes, out),
         Question::Unknown => report::refused_line(out, 0, Refusal::Malformed),
     }
 }
@@ -80,10 +100,10 @@ pub fn console(input: &[u8], out: &mut [u8; CONSOLE_BYTES]) -> usize
 pub fn convert(input: &[u8], out: &mut [u8; FILE_BYTES]) -> usize
     ensures { λ r. ⌜ WholeText (file (now (input .entry))) (now (out .entry)) (now (out .exit)) r ⌝ }
 {
-    let bytes = plan::taken(input);
-    match asked(bytes) {
+    let bytes = taken(input);
+    match asked(input) {
         Question::Reduction => 0,
-        Question::Carry(way) => carry::file(way, &bytes[1..], out),
+        Question::Carry(way) => carry::file(way, bytes, out),
         Question::Unknown => 0,
     }
 }

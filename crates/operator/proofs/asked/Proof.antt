@@ -7,7 +7,7 @@ use Rattle.operator.proofs.asked.Statement.{statement}
 use Rattle.operator.proofs.asked.Tie as tie
 
 nothing : tie.Need-returns
-nothing c = asks-nothing (c .before .args .bytes .now) (c .if1 .taken)
+nothing c = asks-nothing (c .before .args .input .now) (c .if1 .taken)
 
 reduction : tie.Need-returns-2
 reduction c = sym (asks _ (c .before .before .if1 .left) ∙ rw (c .match .keys1))

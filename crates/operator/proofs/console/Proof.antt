@@ -1,36 +1,23 @@
 -- `console` meets its contract: a question that is known, or nothing that is.
 use borrow.Author.Needs.{needs}
 use native.Mathlib.Omega.{arith}
-use Prim.Native.Nat.{_-_, _≤_}
+use Prim.Native.Nat.{_≤_}
 use mathlib.Core.Path.{sym, _∙_}
-use lib.ListN.{length, take, drop}
+use lib.ListN.{length}
 use Rattle.model.specs.Program.{inputBytes}
 use Rattle.operator.specs.Console.{answerTo}
-use Rattle.operator.proofs.Asking.{known, few, tells}
+use Rattle.operator.proofs.Asking.{few, tells}
 use Rattle.operator.proofs.Lines.{line}
 use Rattle.operator.proofs.console.Statement.{statement}
 use Rattle.operator.proofs.console.Tie as tie
 
--- a question that is known has its first byte
-reduction-some : (c : tie.After-enum-told) → 1 ≤ length (c .before .before .before .taken .result .now)
-reduction-some c =
-    let asked = c .before .before in
-    rw (sym (asked .asked .ensures) ∙ c .enum-told .given .1) at (known (asked .before .taken .result .now))
-
-carry-some : (c : tie.After-known-told) → 1 ≤ length (c .before .before .before .before .taken .result .now)
-carry-some c =
-    let asked = c .before .before .before in
-    rw (sym (asked .asked .ensures) ∙ c .before .way .given .1) at (known (asked .before .taken .result .now))
-
--- the bytes after it are no more than are taken
-taken-few : (c : tie.After-taken)
-    → length (take (length (c .taken .result .now) - 1) (drop 1 (c .taken .result .now))) ≤ inputBytes
+taken-few : (c : tie.After-taken) → length (c .taken .result .now) ≤ inputBytes
 taken-few c = few (c .before .before .args .input .now) (c .taken .ensures)
 
 reduces : tie.Need-returns
 unfolding answerTo
 reduces c =
-    let told = c .before .before .before in
+    let told = c .before .before in
     let asked = told .before .before in
     let t = asked .before in
     let start = t .before .before in
@@ -40,7 +27,7 @@ reduces c =
 carries : tie.Need-returns-2
 unfolding answerTo
 carries c =
-    let told = c .before .before .before .before in
+    let told = c .before .before .before in
     let asked = told .before .before in
     let t = asked .before in
     let start = t .before .before in
@@ -60,9 +47,7 @@ unknown c =
 pub console-spec : {M : Type 1} → statement M
 console-spec =
     tie.close
-    (tie.spec (λ c κs. search needs) (λ c κs. search needs) (λ c. search needs) (λ c. reduction-some c)
-    (λ c. omega (arith, reduction-some c)) (λ c. search needs)
-    (λ c κs. taken-few (c .before .before .before .before .before)) (λ c. search needs)
-    (λ c. carry-some c) (λ c. omega (arith, carry-some c)) (λ c. search needs)
-    (λ c κs. taken-few (c .before .before .before .before .before .before)) (λ c. search needs)
-    (λ c κs. search needs) reduces carries unknown)
+    (tie.spec (λ c κs. search needs) (λ c κs. search needs) (λ c. search needs)
+    (λ c κs. taken-few (c .before .before .before .before)) (λ c. search needs)
+    (λ c κs. taken-few (c .before .before .before .before .before)) (λ c. search needs) (λ c κs. search needs)
+    reduces carries unknown)

@@ -1,27 +1,19 @@
 -- `convert` meets its contract: a store that is carried, or nothing.
 use borrow.Author.Needs.{needs}
 use native.Mathlib.Omega.{arith}
-use Prim.Native.Nat.{_-_, _≤_}
+use Prim.Native.Nat.{_≤_}
 use mathlib.Core.Path.{sym, _∙_}
-use lib.ListN.{length, take, drop}
+use lib.ListN.{length}
 use Rattle.model.specs.Program.{inputBytes}
 use Rattle.report.proofs.Appending.{nothing}
 use Rattle.report.proofs.Printing.{whole-text}
 use Rattle.operator.specs.File.{fileTo}
-use Rattle.operator.proofs.Asking.{known, few}
+use Rattle.operator.proofs.Asking.{few}
 use Rattle.operator.proofs.Files.{filed}
 use Rattle.operator.proofs.convert.Statement.{statement}
 use Rattle.operator.proofs.convert.Tie as tie
 
--- a question that is known has its first byte
-some : (c : tie.After-known-told) → 1 ≤ length (c .before .before .before .before .taken .result .now)
-some c =
-    let asked = c .before .before .before in
-    rw (sym (asked .asked .ensures) ∙ c .before .way .given .1) at (known (asked .before .taken .result .now))
-
--- the bytes after it are no more than are taken
-taken-few : (c : tie.After-taken)
-    → length (take (length (c .taken .result .now) - 1) (drop 1 (c .taken .result .now))) ≤ inputBytes
+taken-few : (c : tie.After-taken) → length (c .taken .result .now) ≤ inputBytes
 taken-few c = few (c .before .before .args .input .now) (c .taken .ensures)
 
 reduction : tie.Need-returns
@@ -34,7 +26,7 @@ reduction c =
 
 carries : tie.Need-returns-2
 carries c =
-    let told = c .before .before .before .before in
+    let told = c .before .before .before in
     let asked = told .before .before in
     let t = asked .before in
     let start = t .before .before in
@@ -52,7 +44,6 @@ unknown c =
 pub convert-spec : {M : Type 1} → statement M
 convert-spec =
     tie.close
-    (tie.spec (λ c κs. search needs) (λ c κs. search needs) (λ c. search needs) (λ c. search needs) (λ c. some c)
-    (λ c. omega (arith, some c)) (λ c. search needs)
-    (λ c κs. taken-few (c .before .before .before .before .before .before)) (λ c. search needs)
+    (tie.spec (λ c κs. search needs) (λ c κs. search needs) (λ c. search needs) (λ c. search needs)
+    (λ c κs. taken-few (c .before .before .before .before .before)) (λ c. search needs)
     reduction carries unknown)
