@@ -1,5 +1,5 @@
-// The operator's program `converter`, for files: the first byte of standard input and 65,536 more, which are `console`'s
-// question 2 or 3, and the store that it makes, as bytes. It writes nothing where the question is refused.
+// The operator's program `converter`, for files: the first byte of standard input and 65,536 more, as `console`'s
+// questions 2 and 3 have them; and `done` and the whole store that is made, as bytes, or the line of a refusal.
 use libc::STDIN_FILENO;
 use libc::STDOUT_FILENO;
 

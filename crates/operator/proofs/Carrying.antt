@@ -36,7 +36,7 @@ module _ (F G : Form) (bytes target : List ℕ) where
     ends-carried e p s c = rw (passes, ← after-plan, e, ← p, ← s, ← c .verdict, ← c .target)
 
 -- what is printed of an ending is the answer's text
-pub ends-shown : (F G : Form) (bytes last : List ℕ) {r e : Ending} {start filled before after : List ℕ} {n : ℕ}
-    → r ≡ e → filled ≡ start → endingIn r last ≡ carrying F G bytes filled → Prints (endingIn e last) before after n
+pub ends-shown : (F G : Form) (bytes last : List ℕ) (e : Ending) {start filled before after : List ℕ} {n : ℕ}
+    → filled ≡ start → endingIn e last ≡ carrying F G bytes filled → Prints (endingIn e last) before after n
     → Prints (carrying F G bytes start) before after n
-ends-shown F G bytes last e s c a = rw (← s, ← c, e) a
+ends-shown F G bytes last e s c a = rw (← s, ← c) a

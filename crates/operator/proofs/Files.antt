@@ -14,10 +14,9 @@ use Rattle.operator.specs.declared.Question.the-variants.{Carry}
 use Rattle.operator.specs.declared.carry.Way.{Way}
 use Rattle.operator.specs.declared.carry.Way.the-variants.{Upgrade, Downgrade}
 use Rattle.operator.specs.declared.carry.Ending.{Ending}
-use Rattle.operator.specs.ConsoleAnswer.{carried}
 use Rattle.operator.specs.Carrying.{sourceForm, targetForm, carrying, endingIn}
 use Rattle.operator.specs.Console.{askedIn, takenIn}
-use Rattle.operator.specs.File.{cellsBytes, fileOf, fileTo, file, fileBytes}
+use Rattle.operator.specs.File.{cellsBytes, fileText, fileTo, file, fileBytes}
 
 module _ {b a : List ℕ} {at r : ℕ} where
   pub cell-written : {xs : List ℕ} (v : ℕ) → xs ≡ bodyBytes v → Appends (length xs) b at xs a r
@@ -31,19 +30,18 @@ cells-few Upgrade = omega arith
 cells-few Downgrade = omega arith
 
 module _ {b a : List ℕ} {r : ℕ} where
-  -- what is written of an ending
-  pub ends-filed : (w : Way) (bytes last : List ℕ) {e f : Ending} → e ≡ f
+  -- what is printed of an ending
+  pub ends-filed : (w : Way) (bytes last : List ℕ) (e : Ending)
       → endingIn e last ≡ carrying (sourceForm w) (targetForm w) bytes (replicate storeCells 0)
-      → Appends fileBytes b 0 (fileOf (targetForm w) (endingIn f last)) a r
+      → Appends fileBytes b 0 (fileText (targetForm w) (endingIn e last)) a r
       → Appends fileBytes b 0 (fileTo (Carry w) bytes) a r
   unfolding fileTo
-  ends-filed w bytes last same c t = rw (← c, same) t
+  ends-filed w bytes last e c t = rw (← c) t
 
-  pub cells-filed : (w : Way) (last : List ℕ) {count : ℕ} → count ≡ form.storeCells (targetForm w)
-      → Appends (count * 4) b 0 (cellsBytes count last) a r
-      → Appends fileBytes b 0 (fileOf (targetForm w) (carried last)) a r
-  unfolding fileOf
-  cells-filed w last e t = rw (← e) (at-most t (omega (arith, e, cells-few w)))
+  pub all-cells : (w : Way) (last : List ℕ) {at count : ℕ} → count ≡ form.storeCells (targetForm w)
+      → Appends (count * 4) b at (cellsBytes count last) a r
+      → Appends (storeCells * 4) b at (cellsBytes (form.storeCells (targetForm w)) last) a r
+  all-cells w last e t = rw (← e) (at-most t (omega (arith, e, cells-few w)))
 
   -- where the buffer is long enough, it holds the whole file
   pub filed : (input : List ℕ) {bytes : List ℕ} {x : Question} → bytes ≡ takenIn input → x ≡ askedIn input

@@ -1,7 +1,7 @@
 -- The whole output of `console`, as bytes, and its promise.
 use Prim.Native.Nat.{ℕ, _+_, _-_, _*_, max}
 use mathlib.Core.Bool.{Bool, true, false, cond}
-use mathlib.Core.List.{List, _++_}
+use mathlib.Core.List.{List, [], _++_}
 use lib.ListN.{length, getD}
 use Rattle.model.specs.declared.Record.{Record}
 use Rattle.model.specs.declared.Record.the-variants.{Call, Recover}
@@ -49,17 +49,24 @@ partText call part rooms n =
     concatBelow (length part - 1) (λ i. keptLine (call (getD part i 0)) (getD part i 0) (getD rooms i 0))
     ++ lastLine (call (getD part (length part - 1) 0)) (getD part (length part - 1) 0) n
 
--- "It prints `done`, then a line `cell i v` for each cell that differs from its start, rising"
 abbrev pub doneText : List ℕ
 doneText = chars "done\n"
 
--- "a line with the plan's bytes", and the part; the cells of a carried store; or one line
-unfoldable pub answerText : ConsoleAnswer → List ℕ → List ℕ
-answerText (planRefused n) part = planRefusedText n
-answerText (refused n) part = refusedText n
-answerText (reduced plan T calls f) part =
+-- the plan's bytes and the part; `done` and the target of a carried store, as it is shown; or one line
+unfoldable pub answerText : (List ℕ → List ℕ) → ConsoleAnswer → List ℕ → List ℕ
+answerText shown (planRefused n) part = planRefusedText n
+answerText shown (refused n) part = refusedText n
+answerText shown (reduced plan T calls f) part =
     planLineText plan ++ partText (λ i. getD calls i Recover) part (rooms T (callsAt calls part)) (f .number)
-answerText (carried target) part = doneText ++ changedText target
+answerText shown (carried target) part = doneText ++ shown target
+
+-- an answer without a part: its line, with nothing shown of a target
+abbrev pub lineOf : ConsoleAnswer → List ℕ
+lineOf x = answerText (λ target. []) x []
+
+-- `console` shows the cells of a target that have changed
+abbrev pub consoleText : ConsoleAnswer → List ℕ → List ℕ
+consoleText = answerText changedText
 
 -- How many bytes an output has at most: a plan's are its two sizes and the two ends of each channel.
 abbrev pub planBytes : ℕ
@@ -80,4 +87,4 @@ consoleBytes = max (planLineBytes planBytes + partBytes) (doneBytes + storeCells
 pub record Tells (input before after : List ℕ) (r : ℕ) : Type 0 where
   pub part : List ℕ
   pub allowed : PartIn (console input) part
-  pub text : WholeText (answerText (console input) part) before after r
+  pub text : WholeText (consoleText (console input) part) before after r

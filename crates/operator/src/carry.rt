@@ -8,6 +8,7 @@ use model::Topology;
 use model::Verdict;
 use rules::layout::STORE_CELLS;
 ghost use mathlib.Core.Path.{_≡_};
+ghost use mathlib.Core.List.{[]};
 ghost use Prim.Native.Nat.{_≤_};
 ghost use lib.ListN.{length};
 ghost use Rattle.model.specs.Form.{storeCells};
@@ -16,8 +17,10 @@ ghost use Rattle.migration.specs.Carry.{carry};
 ghost use Rattle.migration.specs.Carries.{Carries};
 ghost use Rattle.report.specs.Appends.{Appends};
 ghost use Rattle.report.specs.Changed.{startStore};
+ghost use Rattle.report.specs.TextBytes.{planRefusedBytes};
 ghost use Rattle.operator.specs.declared.Question.the-variants.{Carry};
 ghost use Rattle.operator.specs.Carrying.{sourceForm, targetForm, carrying, endingIn};
+ghost use Rattle.operator.specs.ConsoleText.{lineOf};
 ghost use Rattle.operator.specs.File.{fileTo, fileBytes};
 ghost use Rattle.operator.specs.Printing.{Prints};
 
@@ -27,7 +30,7 @@ pub enum Way {
     Downgrade,
 }
 
-// How it ends: the plan is refused, the carrying is, or the target holds the store.
+// How a carrying ends: the plan is refused, the carrying is, or the target holds the store.
 pub enum Ending {
     PlanRefused(Refusal),
     Refused(Refusal),
@@ -70,7 +73,18 @@ fn carry(way: Way, bytes: &[u8], target: &mut [u32]) -> Ending
     }
 }
 
-// What `console` prints of it, with a target full of rubbish.
+// The line that says how it ends.
+fn tell(ending: Ending, out: &mut [u8]) -> usize
+    ensures { λ r. ⌜ Appends planRefusedBytes (now (out .entry)) 0 (lineOf (endingIn ending [])) (now (out .exit)) r ⌝ }
+{
+    match ending {
+        Ending::PlanRefused(r) => report::plan_refused(out, 0, r),
+        Ending::Refused(r) => report::refused_line(out, 0, r),
+        Ending::Done => report::bytes(out, 0, b"done\n"),
+    }
+}
+
+// What `console` prints: the line, and of a target that was full of rubbish the cells that have changed.
 pub fn show(way: Way, bytes: &[u8], out: &mut [u8]) -> usize
     requires { ⌜ length (now bytes) ≤ inputBytes ⌝ }
     ensures { λ r. ⌜ Prints (carrying (sourceForm way) (targetForm way) (now (bytes .entry)) startStore)
@@ -78,13 +92,12 @@ pub fn show(way: Way, bytes: &[u8], out: &mut [u8]) -> usize
 {
     let mut target = [0u32; STORE_CELLS];
     report::cells::fill(&mut target);
-    match carry(way, bytes, &mut target) {
-        Ending::PlanRefused(r) => report::plan_refused(out, 0, r),
-        Ending::Refused(r) => report::refused_line(out, 0, r),
-        Ending::Done => {
-            let at = report::bytes(out, 0, b"done\n");
-            report::cells::changed(&target, out, at)
-        }
+    let ending = carry(way, bytes, &mut target);
+    let at = tell(ending, out);
+    match ending {
+        Ending::PlanRefused(_) => at,
+        Ending::Refused(_) => at,
+        Ending::Done => report::cells::changed(&target, out, at),
     }
 }
 
@@ -98,16 +111,18 @@ fn target_cells(way: Way) -> usize
     }
 }
 
-// What `converter` writes of it, with a target of zeros.
+// What `converter` prints: the line, and of a target that was zeros all cells.
 pub fn file(way: Way, bytes: &[u8], out: &mut [u8]) -> usize
     requires { ⌜ length (now bytes) ≤ inputBytes ⌝ }
     ensures { λ r. ⌜ Appends fileBytes (now (out .entry)) 0
         (fileTo (Carry way) (now (bytes .entry))) (now (out .exit)) r ⌝ }
 {
     let mut target = [0u32; STORE_CELLS];
-    match carry(way, bytes, &mut target) {
-        Ending::PlanRefused(_) => 0,
-        Ending::Refused(_) => 0,
-        Ending::Done => cells::write(&target, target_cells(way), out),
+    let ending = carry(way, bytes, &mut target);
+    let next = tell(ending, out);
+    match ending {
+        Ending::PlanRefused(_) => next,
+        Ending::Refused(_) => next,
+        Ending::Done => cells::write(&target, target_cells(way), out, next),
     }
 }

@@ -25,13 +25,13 @@ pub fn read(bytes: &[u8], cells: &mut [u32])
     }
 }
 
-// The first cells, as many as are asked for, from the buffer's start on.
-pub fn write(cells: &[u32], count: usize, out: &mut [u8]) -> usize
+// The first cells, as many as are asked for, from this position of the buffer on.
+pub fn write(cells: &[u32], count: usize, out: &mut [u8], at: usize) -> usize
     requires { ⌜ count ≤ length (now cells) ⌝ }
-    ensures { λ r. ⌜ Appends (count * 4) (now (out .entry)) 0
+    ensures { λ r. ⌜ Appends (count * 4) (now (out .entry)) at
         (cellsBytes count (now (cells .entry))) (now (out .exit)) r ⌝ }
 {
-    let mut next: usize = 0;
+    let mut next = at;
     let mut i: usize = 0;
     while i < count {
         let bytes = record::word_bytes(cells[i]);

@@ -10,7 +10,9 @@ use crate::carry::Way;
 use model::Refusal;
 ghost use mathlib.Core.Path.{_≡_};
 ghost use lib.ListN.{replicate};
-ghost use Rattle.report.specs.Appends.{WholeText};
+ghost use Rattle.report.specs.Appends.{Appends, WholeText};
+ghost use Rattle.report.specs.Hex.{refusedText};
+ghost use Rattle.report.specs.TextBytes.{refusedBytes};
 ghost use Rattle.operator.specs.Console.{takenBytes, askedIn, takenIn};
 ghost use Rattle.operator.specs.ConsoleText.{consoleBytes, Tells};
 ghost use Rattle.operator.specs.File.{file, fileBytes};
@@ -18,11 +20,11 @@ ghost use Rattle.operator.specs.File.{file, fileBytes};
 // How many bytes of an input are taken: the one that asks, and 65,536 more.
 const TAKEN_BYTES: usize = 65537;
 
-// No output is longer than this: specs/ConsoleText.antt has the sum.
+// No output of `console` is longer than this: specs/ConsoleText.antt has the sum.
 const CONSOLE_BYTES: usize = 143456;
 
-// No file is longer than this: the cells of a store of the new form.
-const FILE_BYTES: usize = 21252;
+// And none of `converter` than this: `done`, and the cells of a store of the new form.
+const FILE_BYTES: usize = 21257;
 
 // The part of a list that matters (document 02, M-100).
 const REDUCTION: u8 = 1;
@@ -46,14 +48,14 @@ pub fn input_buffer() -> [u8; TAKEN_BYTES]
     [0; TAKEN_BYTES]
 }
 
-// A buffer that holds every output.
+// A buffer that holds every output of `console`.
 pub fn buffer() -> [u8; CONSOLE_BYTES]
     ensures { λ r. ⌜ r ≡ replicate consoleBytes 0 ⌝ }
 {
     [0; CONSOLE_BYTES]
 }
 
-// A buffer that holds every file.
+// A buffer that holds every output of `converter`.
 pub fn file_buffer() -> [u8; FILE_BYTES]
     ensures { λ r. ⌜ r ≡ replicate fileBytes 0 ⌝ }
 {
@@ -84,6 +86,13 @@ fn taken(input: &[u8]) -> &[u8]
     plan::taken(&input[1..])
 }
 
+// What is printed where nothing known is asked.
+fn nothing_known(out: &mut [u8]) -> usize
+    ensures { λ r. ⌜ Appends refusedBytes (now (out .entry)) 0 (refusedText 7) (now (out .exit)) r ⌝ }
+{
+    report::refused_line(out, 0, Refusal::Malformed)
+}
+
 // What `console` prints for an input, and how many bytes that is.
 pub fn console(input: &[u8], out: &mut [u8; CONSOLE_BYTES]) -> usize
     ensures { λ r. ⌜ Tells (now (input .entry)) (now (out .entry)) (now (out .exit)) r ⌝ }
@@ -92,18 +101,18 @@ pub fn console(input: &[u8], out: &mut [u8; CONSOLE_BYTES]) -> usize
     match asked(input) {
         Question::Reduction => reduce::reduce(bytes, out),
         Question::Carry(way) => carry::show(way, bytes, out),
-        Question::Unknown => report::refused_line(out, 0, Refusal::Malformed),
+        Question::Unknown => nothing_known(out),
     }
 }
 
-// What `converter` writes for an input, and how many bytes that is: the store that questions 2 and 3 make of zeros.
+// What `converter` prints for an input, and how many bytes that is. Only the carrying of a store is known to it.
 pub fn convert(input: &[u8], out: &mut [u8; FILE_BYTES]) -> usize
     ensures { λ r. ⌜ WholeText (file (now (input .entry))) (now (out .entry)) (now (out .exit)) r ⌝ }
 {
     let bytes = taken(input);
     match asked(input) {
-        Question::Reduction => 0,
+        Question::Reduction => nothing_known(out),
         Question::Carry(way) => carry::file(way, bytes, out),
-        Question::Unknown => 0,
+        Question::Unknown => nothing_known(out),
     }
 }

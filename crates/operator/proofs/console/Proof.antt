@@ -42,7 +42,7 @@ unknown c =
     let t = asked .before in
     let start = t .before .before in
     tells (start .args .input .now) (t .taken .ensures) (sym (told .enum-told2 .given .1) ∙ asked .asked .ensures)
-    (omega (arith, start .good)) (line (c .refused-line .ensures))
+    (omega (arith, start .good)) (line (c .nothing-known .ensures))
 
 pub console-spec : {M : Type 1} → statement M
 console-spec =

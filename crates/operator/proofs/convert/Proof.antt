@@ -1,11 +1,10 @@
--- `convert` meets its contract: a store that is carried, or nothing.
+-- `convert` meets its contract: the carrying of a store, or a question that isn't one.
 use borrow.Author.Needs.{needs}
 use native.Mathlib.Omega.{arith}
 use Prim.Native.Nat.{_≤_}
 use mathlib.Core.Path.{sym, _∙_}
 use lib.ListN.{length}
 use Rattle.model.specs.Program.{inputBytes}
-use Rattle.report.proofs.Appending.{nothing}
 use Rattle.report.proofs.Printing.{whole-text}
 use Rattle.operator.specs.File.{fileTo}
 use Rattle.operator.proofs.Asking.{few}
@@ -19,10 +18,12 @@ taken-few c = few (c .before .before .args .input .now) (c .taken .ensures)
 reduction : tie.Need-returns
 unfolding fileTo
 reduction c =
-    let asked = c .before .before in
+    let told = c .before .before in
+    let asked = told .before .before in
     let t = asked .before in
-    filed (t .before .before .args .input .now) (t .taken .ensures)
-    (sym (c .enum-told .given .1) ∙ asked .asked .ensures) (whole-text (nothing _ _) (omega arith))
+    let start = t .before .before in
+    filed (start .args .input .now) (t .taken .ensures) (sym (told .enum-told .given .1) ∙ asked .asked .ensures)
+    (whole-text (c .nothing-known .ensures) (omega (arith, start .good)))
 
 carries : tie.Need-returns-2
 carries c =
@@ -36,14 +37,16 @@ carries c =
 unknown : tie.Need-returns-3
 unfolding fileTo
 unknown c =
-    let asked = c .before .before in
+    let told = c .before .before in
+    let asked = told .before .before in
     let t = asked .before in
-    filed (t .before .before .args .input .now) (t .taken .ensures)
-    (sym (c .enum-told2 .given .1) ∙ asked .asked .ensures) (whole-text (nothing _ _) (omega arith))
+    let start = t .before .before in
+    filed (start .args .input .now) (t .taken .ensures) (sym (told .enum-told2 .given .1) ∙ asked .asked .ensures)
+    (whole-text (c .nothing-known2 .ensures) (omega (arith, start .good)))
 
 pub convert-spec : {M : Type 1} → statement M
 convert-spec =
     tie.close
-    (tie.spec (λ c κs. search needs) (λ c κs. search needs) (λ c. search needs) (λ c. search needs)
-    (λ c κs. taken-few (c .before .before .before .before .before)) (λ c. search needs)
-    reduction carries unknown)
+    (tie.spec (λ c κs. search needs) (λ c κs. search needs) (λ c. search needs) (λ c κs. search needs)
+    (λ c. search needs) (λ c κs. taken-few (c .before .before .before .before .before)) (λ c. search needs)
+    (λ c κs. search needs) reduction carries unknown)

@@ -13,10 +13,10 @@ use Rattle.operator.proofs.cells.write.Statement.{statement}
 use Rattle.operator.proofs.cells.write.Tie as tie
 
 abbrev Inv-loop : tie.InvT-loop
-Inv-loop cells count out₀ next₀ i₀ out next i = Appended 4 count (λ i. bodyBytes (cell cells i)) out₀ 0 i out next
+Inv-loop cells count out₀ at next₀ i₀ out next i = Appended 4 count (λ i. bodyBytes (cell cells i)) out₀ at i out next
 
 abbrev μ-loop : tie.MeasureT-loop
-μ-loop cells count out₀ next₀ i₀ out next i = count - i
+μ-loop cells count out₀ at next₀ i₀ out next i = count - i
 
 loop-again : tie.Need-loop-again Inv-loop μ-loop
 unfolding cell
