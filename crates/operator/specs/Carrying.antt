@@ -1,5 +1,5 @@
--- Questions 2 and 3, a store carried to the new form and back: "a plan as in `head`, then the source's cells, 4 bytes
--- each, lowest first".
+-- Questions 2 and 3, a store carried to the new form and back. They are asked of a plan as `head` has it, and then the
+-- source's cells, 4 bytes each, lowest first.
 use Prim.Native.Nat.{ℕ, _+_, _*_, _/_, _%_}
 use mathlib.Core.Bool.{Bool, true, false}
 use mathlib.Core.List.{List}
@@ -40,11 +40,11 @@ cellIn bytes i =
 unfoldable pub cellsIn : List ℕ → List ℕ
 cellsIn bytes = tabulate (length bytes / 4) (cellIn bytes)
 
--- whether the bytes are cells: "bytes that are no multiple of 4 are 7"
+-- whether the bytes are cells: else they are 7
 abbrev pub areCells : List ℕ → Bool
 areCells bytes = eqb (length bytes % 4) 0
 
--- "It prints `done`, [..] or `refused n`"
+-- the carrying is refused, or done
 unfoldable pub carriedAnswer : Option ℕ → List ℕ → ConsoleAnswer
 carriedAnswer (some n) target = refused n
 carriedAnswer none target = carried target
@@ -54,7 +54,7 @@ cellsAnswer false F G T bytes target = refused 7
 cellsAnswer true F G T bytes target =
     let x : Carried = carry F G T (cellsIn bytes) target in carriedAnswer (x .refusal) (x .target)
 
--- "after the plan's checks"; "the plan's own refusals as `plan refused n`"
+-- all of this after the plan's checks, whose refusals are told as the plan's
 unfoldable pub sourceAnswer : Option ℕ → Form → Form → List ℕ → List ℕ → ConsoleAnswer
 sourceAnswer (some n) F G bytes target = planRefused n
 sourceAnswer none F G bytes target =

@@ -17,24 +17,25 @@ use Rattle.operator.specs.ConsoleAnswer.{ConsoleAnswer, planRefused, ref
 use Rattle.operator.specs.Carrying.{sourceForm, targetForm, carrying}
 use Rattle.operator.specs.Lists.{callsIn, brokenOff}
 
--- "Otherwise one line, the first of these that applies": last, "`refused 18`; `refused 17`"
+-- A part is answered, or the first of these that applies: last, that the list is too long, 18, and that no call of it
+-- is refused, 17;
 unfoldable pub soughtAnswer : List ℕ → Topology → List Record → Sought → ConsoleAnswer
 soughtAnswer plan T calls (refuses n) = refused n
 soughtAnswer plan T calls (finds f) = reduced plan T calls f
 
--- before them, "`refused 7` where the bytes after the plan aren't all records"
+-- before them that the bytes after the plan aren't all records, 7;
 unfoldable pub listAnswer : Bool → List ℕ → Topology → List Record → ConsoleAnswer
 listAnswer true plan T calls = refused 7
 listAnswer false plan T calls = soughtAnswer plan T calls (sought T calls)
 
--- and first "`plan refused n` as `head` has it"
+-- and first the plan's refusal, as `head` has it
 unfoldable pub planAnswer : Option ℕ → List ℕ → ConsoleAnswer
 planAnswer (some n) bytes = planRefused n
 planAnswer none bytes =
     let records : List ℕ = drop (planLength bytes) bytes in
     listAnswer (brokenOff records) (take (planLength bytes) bytes) (planOf bytes) (callsIn records)
 
--- question 1: "input as for `head`"
+-- question 1, of an input as `head`'s
 unfoldable pub reduction : List ℕ → ConsoleAnswer
 reduction bytes = planAnswer (planRefusal bytes) bytes
 
@@ -62,8 +63,8 @@ takenBytes = 1 + inputBytes
 unfoldable pub takenIn : List ℕ → List ℕ
 takenIn input = take inputBytes (drop 1 input)
 
--- "No input, or a first byte that asks nothing known, prints `refused 7`." What a store is carried into "starts as cell
--- i = 2,654,435,761 × i modulo 2^32, long enough".
+-- Nothing known is 7, whether there is no input or another first byte. What a store is carried into starts full of
+-- rubbish, and is long enough.
 unfoldable pub answerTo : Question → List ℕ → ConsoleAnswer
 answerTo Reduction bytes = reduction bytes
 answerTo (Carry w) bytes = carrying (sourceForm w) (targetForm w) bytes startStore

@@ -43,7 +43,7 @@ keptLine call place room =
 abbrev pub lastLine : Record → ℕ → ℕ → List ℕ
 lastLine call place n = lastText (writeRecord call) (place + 1) n
 
--- "a line for each kept call [..], and on the last one ` refused ` and the number"
+-- a line for each kept call, and on the last one its refusal
 abbrev pub partText : (ℕ → Record) → List ℕ → List ℕ → ℕ → List ℕ
 partText call part rooms n =
     concatBelow (length part - 1) (λ i. keptLine (call (getD part i 0)) (getD part i 0) (getD rooms i 0))
