@@ -1,4 +1,4 @@
--- Laws that the proofs of several functions cite.
+-- Laws that the proofs of several functions cite, and last the theorems.
 pub mod Asking
 pub mod Lines
 pub mod Listing
@@ -6,3 +6,5 @@ pub mod Printed
 pub mod Answering
 pub mod Carrying
 pub mod Files
+pub mod SameLine
+pub mod TakenBytes

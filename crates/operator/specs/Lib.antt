@@ -1,4 +1,5 @@
--- What `console` answers and prints, what `converter` writes, and what the functions behind them promise.
+-- What `console` answers and prints, what `converter` prints, what the functions behind them promise, and last what the
+-- theorems state.
 pub mod Carrying
 pub mod Console
 pub mod ConsoleAnswer
@@ -6,3 +7,5 @@ pub mod ConsoleText
 pub mod File
 pub mod Lists
 pub mod Printing
+pub mod SameLine
+pub mod TakenBytes
