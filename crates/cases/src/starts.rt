@@ -15,8 +15,8 @@ use model::Started;
 use model::Topology;
 
 // Cells of the slot for line 0, which starts at 1. In it the record of process p starts at 130 × p: its physical
-// checkpoint, its log's count, a body and a channel for each entry. That of channel c starts at 2,080 + 9 × c: its log's
-// count, a body for each entry.
+// checkpoint, its log's count, a body and a channel for each entry. That of channel c starts at 2,080 + 9 × c: its
+// log's count, a body for each entry.
 const COUNT_OF_PROCESS_0: usize = 1 + 1;
 
 const FIRST_BODY: usize = 1 + 2;

@@ -1,5 +1,5 @@
--- What the histories look for is there (the statement is AlwaysFound of specs/AlwaysFound.antt): an accepted commit finds a
--- mark for every planned process, and an accepted receive of a message the send of it.
+-- What the histories look for is there (the statement is AlwaysFound of specs/AlwaysFound.antt): an accepted commit
+-- finds a mark for every planned process, and an accepted receive of a message the send of it.
 use Prim.Native.Nat.{ℕ, zero, suc, _<_}
 use mathlib.Core.Path.{_≡_, refl, sym, ap, subst, _∙_}
 use mathlib.Core.Bool.{Bool, true}

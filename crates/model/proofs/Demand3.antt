@@ -48,7 +48,8 @@ step-keeps w x budget i =
 
 recover-keeps : (w : World) → topologyRefusal (w .state .topology) ≡ none → InvOf (w .state .topology) w
     → InvOf (w .state .topology) (next (w .state .topology) w recovery)
-unfolding next replyTo onReply onCall stateAfter storeAfter commitsAfter countCommit isCommit recoverSaid lineOr stateOr idleState
+unfolding next replyTo onReply onCall stateAfter storeAfter commitsAfter countCommit isCommit recoverSaid lineOr
+    stateOr idleState
 recover-keeps w good i =
     rw (
       recovers (w .state) (w .store) (w .history) good (i .holds) .accepted,

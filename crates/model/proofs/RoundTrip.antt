@@ -1,5 +1,5 @@
--- The records' round trip (the statement is RoundTrip of specs/RoundTrip.antt). Both ways are shown of any fields first,
--- and then of the table of kinds.
+-- The records' round trip (the statement is RoundTrip of specs/RoundTrip.antt). Both ways are shown of any fields
+-- first, and then of the table of kinds.
 use Prim.Native.Nat.{ℕ, suc, _<_}
 use mathlib.Core.Path.{_≡_, refl, sym, subst, _∙_}
 use mathlib.Core.Bool.{Bool, true, cond, _&&_}

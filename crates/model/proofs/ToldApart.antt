@@ -1,5 +1,5 @@
--- What an answer says tells the answer (ToldApart of specs/ToldApart.antt): each number leads back to its refusal, and what
--- is said to its outcome.
+-- What an answer says tells the answer (the statement is ToldApart of specs/ToldApart.antt): each number leads back to
+-- its refusal, and what is said to its outcome.
 use Prim.Native.Nat.{ℕ, _-_}
 use mathlib.Core.Path.{_≡_, refl, sym, ap, _∙_}
 use mathlib.Core.List.{List, [], _∷_}

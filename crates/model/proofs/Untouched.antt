@@ -1,5 +1,5 @@
--- "further cells are never touched" (the statement is Untouched of specs/Untouched.antt): a step that writes is accepted,
--- so what it writes of is planned, and stands in one of the two slots or in the line cell.
+-- "further cells are never touched" (the statement is Untouched of specs/Untouched.antt): a step that writes is
+-- accepted, so what it writes of is planned, and stands in one of the two slots or in the line cell.
 use Prim.Native.Nat.{ℕ, _<_, _≤_}
 use mathlib.Core.Path.{_≡_, refl}
 use mathlib.Core.Bool.{Bool, true, false, Bool·beq}

@@ -1,4 +1,5 @@
--- What the histories look for is there, in every world that a list of calls reaches. The theorem is proofs/AlwaysFound.antt.
+-- What the histories look for is there, in every world that a list of calls reaches. The theorem is
+-- proofs/AlwaysFound.antt.
 use Prim.Native.Nat.{ℕ, _<_}
 use mathlib.Core.Path.{_≡_}
 use mathlib.Core.Bool.{true}

@@ -34,7 +34,7 @@ use Rattle.operator.specs.declared.list.ListRead.{ListRead}
 use Rattle.operator.specs.Console.{soughtAnswer, listAnswer, planAnswer, reduction}
 use Rattle.operator.specs.ConsoleText.{keptLine, lastLine, partText, partBytes, planBytes, answerText}
 use Rattle.operator.specs.Lists.{callsIn, brokenOff, ReadsList}
-use Rattle.operator.specs.Printing.{Prints}
+use Rattle.operator.specs.Printing.{PrintsAnswer}
 use Rattle.operator.proofs.Lines.{plan-line, line}
 
 -- a list of the code is as long as its count
@@ -117,21 +117,21 @@ answered bytes passes T plan x read whole-list s e =
 -- one line alone
 module _ (bytes : List ℕ) {before after : List ℕ} {r : ℕ} where
   pub answers-plan : {n : ℕ} → planRefusal bytes ≡ some n
-      → Appends planRefusedBytes before 0 (planRefusedText n) after r → Prints (reduction bytes) before after r
+      → Appends planRefusedBytes before 0 (planRefusedText n) after r → PrintsAnswer (reduction bytes) before after r
   unfolding reduction planAnswer
   answers-plan e t = rw e (plan-line t)
 
   -- past the plan
   module _ (passes : planRefusal bytes ≡ none) where
     pub answers-broken : brokenOff (records bytes) ≡ true → Appends refusedBytes before 0 (refusedText 7) after r
-        → Prints (reduction bytes) before after r
+        → PrintsAnswer (reduction bytes) before after r
     unfolding reduction planAnswer listAnswer
     answers-broken b t = rw (passes, b) (line t)
 
     module _ {T : Topology} (plan : T ≡ planOf bytes) (x : ListRead) (read : ReadsList (records bytes) x)
         (whole-list : brokenOff (records bytes) ≡ false) where
       pub answers-refused : {n : ℕ} → sought T (listed (x .list)) ≡ refuses n
-          → Appends refusedBytes before 0 (refusedText n) after r → Prints (reduction bytes) before after r
+          → Appends refusedBytes before 0 (refusedText n) after r → PrintsAnswer (reduction bytes) before after r
       unfolding soughtAnswer
       answers-refused e t = rw (answered bytes passes T plan x read whole-list _ e) (line t)
 
@@ -141,7 +141,7 @@ module _ (bytes : List ℕ) {before after : List ℕ} {r : ℕ} where
           → own ≡ take (planLength bytes) bytes
           → Appends (planLineBytes (length own)) before 0 (planLineText own) middle at
           → Appends partBytes middle at (partText (callAt (x .list)) part said (f .number)) after r
-          → Prints (reduction bytes) before after r
+          → PrintsAnswer (reduction bytes) before after r
       unfolding soughtAnswer answerText
       answers-part {f} {part} {said} {own} {middle} {at} e s m o p q =
           let few = found-few T (listed (x .list)) e in

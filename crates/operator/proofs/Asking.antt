@@ -15,7 +15,7 @@ use Rattle.operator.specs.declared.carry.Way.the-variants.{Upgrade, Down
 use Rattle.operator.specs.Console.{reductionAsked, upgradeAsked, downgradeAsked, askedIn, takenIn}
 use Rattle.operator.specs.Console.{answerTo, console}
 use Rattle.operator.specs.ConsoleText.{consoleBytes, Tells}
-use Rattle.operator.specs.Printing.{Prints}
+use Rattle.operator.specs.Printing.{PrintsAnswer}
 
 pub asks-nothing : (input : List ℕ) → length input < 1 → Unknown ≡ askedIn input
 unfolding askedIn
@@ -50,7 +50,7 @@ few input e = rw (e, length-take) (omega arith)
 
 -- where the buffer is long enough, it holds the whole of an answer
 pub tells : (input : List ℕ) {bytes before after : List ℕ} {x : Question} {r : ℕ} → bytes ≡ takenIn input
-    → x ≡ askedIn input → consoleBytes ≤ length before → Prints (answerTo x bytes) before after r
+    → x ≡ askedIn input → consoleBytes ≤ length before → PrintsAnswer (answerTo x bytes) before after r
     → Tells input before after r
 unfolding console
 tells input {bytes} {x = x} e a l p =

@@ -16,7 +16,7 @@ use Rattle.operator.specs.declared.carry.Ending.{Ending}
 use Rattle.operator.specs.ConsoleAnswer.{planRefused, refused}
 use Rattle.operator.specs.Carrying.{cellsIn, areCells, carriedAnswer, cellsAnswer, sourceAnswer, carrying}
 use Rattle.operator.specs.Carrying.{endingIn}
-use Rattle.operator.specs.Printing.{Prints}
+use Rattle.operator.specs.Printing.{PrintsAnswer}
 
 module _ (F G : Form) (bytes target : List ℕ) where
   pub ends-plan : {n : ℕ} → planRefusal bytes ≡ some n → planRefused n ≡ carrying F G bytes target
@@ -37,6 +37,6 @@ module _ (F G : Form) (bytes target : List ℕ) where
 
 -- what is printed of an ending is the answer's text
 pub ends-shown : (F G : Form) (bytes last : List ℕ) (e : Ending) {start filled before after : List ℕ} {n : ℕ}
-    → filled ≡ start → endingIn e last ≡ carrying F G bytes filled → Prints (endingIn e last) before after n
-    → Prints (carrying F G bytes start) before after n
+    → filled ≡ start → endingIn e last ≡ carrying F G bytes filled → PrintsAnswer (endingIn e last) before after n
+    → PrintsAnswer (carrying F G bytes start) before after n
 ends-shown F G bytes last e s c a = rw (← s, ← c) a

@@ -14,15 +14,15 @@ use Rattle.operator.specs.declared.carry.Ending.the-variants.{PlanRefuse
 use Rattle.operator.specs.Carrying.{endingIn}
 use Rattle.operator.specs.ConsoleAnswer.{planRefused, refused, PartIn}
 use Rattle.operator.specs.ConsoleText.{answerText, lineOf, consoleText, consoleBytes, doneBytes}
-use Rattle.operator.specs.Printing.{Prints}
+use Rattle.operator.specs.Printing.{PrintsAnswer}
 
 module _ {before after : List ℕ} {r : ℕ} where
   pub plan-line : {n : ℕ} → Appends planRefusedBytes before 0 (planRefusedText n) after r
-      → Prints (planRefused n) before after r
+      → PrintsAnswer (planRefused n) before after r
   unfolding answerText
   plan-line t = record { part = []; allowed = refl; text = at-most t (omega arith) }
 
-  pub line : {n : ℕ} → Appends refusedBytes before 0 (refusedText n) after r → Prints (refused n) before after r
+  pub line : {n : ℕ} → Appends refusedBytes before 0 (refusedText n) after r → PrintsAnswer (refused n) before after r
   unfolding answerText
   line t = record { part = []; allowed = refl; text = at-most t (omega arith) }
 
@@ -46,7 +46,8 @@ module _ (shown : List ℕ → List ℕ) (last : List ℕ) {e : Ending} {before 
 
 -- no ending has a part
 pub printed : (e : Ending) (last : List ℕ) {before after : List ℕ} {r : ℕ}
-    → Appends consoleBytes before 0 (consoleText (endingIn e last) []) after r → Prints (endingIn e last) before after r
+    → Appends consoleBytes before 0 (consoleText (endingIn e last) []) after r
+    → PrintsAnswer (endingIn e last) before after r
 printed e last t = record { part = []; allowed = none e; text = t }
   where
     none : (e : Ending) → PartIn (endingIn e last) []

@@ -22,7 +22,7 @@ ghost use Rattle.operator.specs.declared.Question.the-variants.{Carry};
 ghost use Rattle.operator.specs.Carrying.{sourceForm, targetForm, carrying, endingIn};
 ghost use Rattle.operator.specs.ConsoleText.{lineOf};
 ghost use Rattle.operator.specs.File.{fileTo, fileBytes};
-ghost use Rattle.operator.specs.Printing.{Prints};
+ghost use Rattle.operator.specs.Printing.{PrintsAnswer};
 
 // To the new form, or back.
 pub enum Way {
@@ -87,7 +87,7 @@ fn tell(ending: Ending, out: &mut [u8]) -> usize
 // What `console` prints: the line, and of a target that was full of rubbish the cells that have changed.
 pub fn show(way: Way, bytes: &[u8], out: &mut [u8]) -> usize
     requires { ⌜ length (now bytes) ≤ inputBytes ⌝ }
-    ensures { λ r. ⌜ Prints (carrying (sourceForm way) (targetForm way) (now (bytes .entry)) startStore)
+    ensures { λ r. ⌜ PrintsAnswer (carrying (sourceForm way) (targetForm way) (now (bytes .entry)) startStore)
         (now (out .entry)) (now (out .exit)) r ⌝ }
 {
     let mut target = [0u32; STORE_CELLS];

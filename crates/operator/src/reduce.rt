@@ -8,11 +8,11 @@ ghost use Prim.Native.Nat.{_≤_};
 ghost use lib.ListN.{length};
 ghost use Rattle.model.specs.Program.{inputBytes};
 ghost use Rattle.operator.specs.Console.{reduction};
-ghost use Rattle.operator.specs.Printing.{Prints};
+ghost use Rattle.operator.specs.Printing.{PrintsAnswer};
 
 pub fn reduce(bytes: &[u8], out: &mut [u8]) -> usize
     requires { ⌜ length (now bytes) ≤ inputBytes ⌝ }
-    ensures { λ r. ⌜ Prints (reduction (now (bytes .entry))) (now (out .entry)) (now (out .exit)) r ⌝ }
+    ensures { λ r. ⌜ PrintsAnswer (reduction (now (bytes .entry))) (now (out .entry)) (now (out .exit)) r ⌝ }
 {
     let reading = plan::read(bytes);
     let verdict = reading.verdict;

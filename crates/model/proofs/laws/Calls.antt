@@ -118,7 +118,8 @@ unfolding answer quietly
 accepted-passes s x store budget ok = go (step-cases s (length store) x)
   where
     Performed : Type 0
-    Performed = Accepted s (length store) x × (underBudget budget s store (step s (length store) x) ≡ answered s x store)
+    Performed =
+        Accepted s (length store) x × (underBudget budget s store (step s (length store) x) ≡ answered s x store)
 
     powered : Accepted s (length store) x → step s (length store) x ≡ effect s x → Powered budget s store (effect s x)
         → Performed

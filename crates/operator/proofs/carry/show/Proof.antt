@@ -11,7 +11,7 @@ use Rattle.report.proofs.Appending.{at-most}
 use Rattle.report.proofs.Changes.{start-length}
 use Rattle.operator.specs.Carrying.{sourceForm, targetForm, carrying, endingIn}
 use Rattle.operator.specs.ConsoleText.{consoleText, consoleBytes}
-use Rattle.operator.specs.Printing.{Prints}
+use Rattle.operator.specs.Printing.{PrintsAnswer}
 use Rattle.operator.proofs.Carrying.{ends-shown}
 use Rattle.operator.proofs.Lines.{plan-told, refusal-told, target-told, printed}
 use Rattle.operator.proofs.carry.show.Statement.{statement}
@@ -31,7 +31,7 @@ module _ (t : tie.After-tell) where
   prints : {before after : List ℕ} {r : ℕ}
       → Appends consoleBytes before 0 (consoleText (endingIn (call .carry .result) (call .carry .last .1 .1 .0)) [])
       after r
-      → Prints (carrying (sourceForm (start .args .way)) (targetForm (start .args .way)) (start .args .bytes .now)
+      → PrintsAnswer (carrying (sourceForm (start .args .way)) (targetForm (start .args .way)) (start .args .bytes .now)
       startStore) before after r
   prints x =
       ends-shown _ _ _ (call .carry .last .1 .1 .0) (call .carry .result) (filled .fill .ensures)

@@ -44,7 +44,11 @@ unfolding readRequest andThen requested
 both c =
     let r = c .before in
     let k = r .before .before in
-    rw (lasts k, andThen, a-record (start k .args .bytes .now) _ (sym (answers k) ∙ ap recordSaid (r .«record» .given .1)))
+    rw (
+      lasts k,
+      andThen,
+      a-record (start k .args .bytes .now) _ (sym (answers k) ∙ ap recordSaid (r .«record» .given .1)),
+    )
 
 pub read-spec : {M : Type 1} → statement M
 read-spec =
