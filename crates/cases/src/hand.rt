@@ -1,6 +1,6 @@
 // Topologies and states made by hand: one of each to start from, and functions that change a thing of it.
+use model::CHANNEL_ROOM;
 use model::CHANNELS;
-use model::PLACES;
 use model::PROCESSES;
 use model::Phase;
 use model::Round;
@@ -91,8 +91,19 @@ pub fn in_phase(mut state: State, phase: Phase) -> State {
 pub fn with_messages(mut state: State, channel: usize, count: u8) -> State {
     let c = channel % CHANNELS;
     let mut held = state.channels[c];
-    held.bodies = [BODY; PLACES];
+    held.bodies = [BODY; CHANNEL_ROOM];
     held.count = count;
+    state.channels[c] = held;
+    state
+}
+
+// A message alone on a channel, with tag 1: its receiver's is 0.
+pub fn with_other_tag(mut state: State, channel: usize) -> State {
+    let c = channel % CHANNELS;
+    let mut held = state.channels[c];
+    held.bodies[0] = BODY;
+    held.kinds[0] = 1;
+    held.count = 1;
     state.channels[c] = held;
     state
 }

@@ -1,5 +1,7 @@
 // Cases that no input of the programs can make: a state or a store is made by hand, and the engine is called on it.
-// A line for each: "ok" or "FAILED", and the papers' sentence. The other cases of document 01 are in tests/scripts/.
+// A line for each: "ok" or "FAILED", and the papers' sentence, or ours where they have none. The other cases of document
+// 01 are in tests/scripts/. Its words here (docs/VOCABULARY.md): copying and marking are the physical and the logical
+// phase, to copy and to mark a board a process's physical and logical checkpoint, to take a message to receive it.
 // Unless a case says otherwise it starts from the state that initialize leaves for the plan of document 01's listing:
 // two processes, channel 0 from 0 to 1 and channel 1 back. `send(1)`, `sent(2)`: on channel 1, and 2 places are left.
 mod expected;
@@ -7,6 +9,7 @@ mod hand;
 mod starts;
 mod unsound;
 
+use crate::expected::Told;
 use crate::expected::done;
 use crate::expected::from;
 use crate::expected::gives;
@@ -17,6 +20,7 @@ use crate::expected::refused;
 use crate::expected::sent;
 use crate::expected::tell;
 use crate::expected::then;
+use crate::expected::took;
 use crate::hand::BODY;
 use crate::hand::LAST_LINE;
 use crate::hand::LINE_CELL;
@@ -27,9 +31,11 @@ use crate::hand::in_phase;
 use crate::hand::one_channel;
 use crate::hand::send;
 use crate::hand::sized;
+use crate::hand::two_channels;
 use crate::hand::with_closed;
 use crate::hand::with_marker;
 use crate::hand::with_messages;
+use crate::hand::with_other_tag;
 use crate::hand::with_topology;
 use crate::starts::COUNT_OF_CHANNEL_1;
 use crate::starts::COUNT_OF_PROCESS_1;
@@ -39,6 +45,7 @@ use crate::starts::recovers_with;
 use crate::starts::replayed;
 use crate::starts::starts_short;
 use model::Phase;
+use model::State;
 use model::Step;
 
 // One process: a recover at the last line but one, a whole round, and a begin after it, also after another recover.
@@ -75,7 +82,11 @@ fn short_store() {
     let sound = with_topology(idle(), good);
     let nine = with_messages(idle(), 1, 9);
     let ok = starts_short(good, refused(6))
+        && starts_short(sized(17, 0), refused(1))
+        && starts_short(sized(2, 65), refused(2))
+        && starts_short(one_channel(0, 2), refused(3))
         && starts_short(one_channel(1, 1), refused(4))
+        && starts_short(two_channels(0, 1, 0, 1), refused(5))
         && gives_short(sound, send(0), refused(6))
         && gives_short(sound, Step::Receive { channel: 9 }, refused(6))
         && gives_short(sound, Step::Begin, refused(6))
@@ -99,24 +110,36 @@ fn marker_on_closed() {
     );
 }
 
-// The channel is empty then, its receiver's tag isn't turned over, and the physical phase goes on.
-fn marker_outside_logical() {
+// Channel 0 is empty then and open, and its receiver has no logical checkpoint: its tag isn't turned over.
+fn merely_removed(state: State) -> bool {
+    let flags = state.flags;
+    gives(state, Step::Receive { channel: 0 }, refused(10))
+        && !state.tags[1]
+        && !flags.logical[1]
+        && !flags.closed[0]
+}
+
+// In this phase a marker is taken, and a message of another tag than its receiver's; and the round goes on.
+fn outside_logical(phase: Phase, next: Step, expected: Told) -> bool {
     let receive = Step::Receive { channel: 0 };
-    let physical = Step::PhysicalCheckpoint { process: 0 };
-    let in_idle = with_marker(idle(), 0);
-    let in_physical = in_phase(in_idle, Phase::Physical(0));
+    let marked = in_phase(with_marker(idle(), 0), phase);
+    let tagged = in_phase(with_other_tag(idle(), 0), phase);
     let mut store = [RUBBISH; STORE_CELLS];
-    let one = then(from(in_idle), receive, &mut store, note());
-    let two = then(from(in_physical), receive, &mut store, note());
-    let still_idle = one.state;
-    let still_physical = two.state;
-    let ok = one.ok
+    let one = then(from(marked), receive, &mut store, note());
+    let two = then(from(tagged), receive, &mut store, took(BODY));
+    let noted = one.state;
+    let taken = two.state;
+    one.ok
         && two.ok
-        && gives(still_idle, receive, refused(10))
-        && gives(still_physical, receive, refused(10))
-        && !still_idle.tags[1]
-        && !still_physical.tags[1]
-        && gives(still_physical, physical, done(1));
+        && merely_removed(noted)
+        && merely_removed(taken)
+        && gives(noted, next, expected)
+}
+
+fn take_outside_logical() {
+    let physical = Step::PhysicalCheckpoint { process: 0 };
+    let ok = outside_logical(Phase::Idle, Step::Begin, done(4))
+        && outside_logical(Phase::Physical(0), physical, done(1));
     tell(
         b"Take, outside marking: tags aren't looked at and a note is merely removed.",
         ok,
@@ -184,7 +207,7 @@ fn main() {
     unsound::topologies();
     short_store();
     marker_on_closed();
-    marker_outside_logical();
+    take_outside_logical();
     room();
     room_beside_marker();
     unsound::channel();

@@ -97,6 +97,7 @@ pub fn round() {
     let ok = gives(at_line(in_physical, LAST_LINE), physical, refused(15))
         && gives(at_line(in_logical, LAST_LINE), logical, refused(15))
         && gives(at_line(idle(), LAST_LINE), send(0), sent(7))
+        && gives(at_line(in_physical, LAST_LINE - 1), physical, done(1))
         && gives(at_line(in_logical, LAST_LINE - 1), logical, done(0));
     tell(
         b"15 state unsound: the round isn't idle at k = 4,294,967,295. Idle passes, and k one less.",
@@ -104,12 +105,13 @@ pub fn round() {
     );
 }
 
-// Process 9 and channel 9 are not in the topology (8), and what follows a begin doesn't come in idle (12).
+// Process 9 and channel 9 are not in the topology (8), a begin doesn't come in the logical phase (12), and what follows
+// a begin not in idle (12).
 pub fn before_others() {
     let nine = with_messages(idle(), 1, 9);
     let ok = gives(nine, send(9), refused(15))
         && gives(nine, Step::Receive { channel: 9 }, refused(15))
-        && gives(nine, Step::Begin, refused(15))
+        && gives(in_phase(nine, Phase::Logical), Step::Begin, refused(15))
         && gives(nine, Step::PhysicalCheckpoint { process: 9 }, refused(15))
         && gives(nine, Step::LogicalCheckpoint { process: 9 }, refused(15))
         && gives(nine, Step::SendMarker { channel: 9 }, refused(15))
