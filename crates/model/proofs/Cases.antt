@@ -1,7 +1,6 @@
 -- The starred cases of document 01, and those of document 02, M-101, hold of the definitions: one fact over the table,
 -- by computation.
-use mathlib.Core.Path.{_≡_, refl}
-use mathlib.Core.List.{map}
+use mathlib.Core.Path.{refl}
 use mathlib.Core.Option.{orElse}
 use Rattle.model.specs.Notation as notation
 use Rattle.model.specs.Check as check
@@ -21,11 +20,12 @@ use Rattle.model.specs.Outcome as outcome
 use Rattle.model.specs.Record as records
 use Rattle.model.specs.Program as program
 use Rattle.model.specs.Run as run
-use Rattle.model.specs.ProgramRuns as runs
+use Rattle.model.specs.ProgramsAreRuns as runs
 use Rattle.model.specs.CaseLines as lines
 use Rattle.model.specs.Cases as cases
+use Rattle.model.specs.Cases.{StarredHold}
 
-pub starred-hold : map (λ (c : cases.Case). c .got) cases.starred ≡ map (λ (c : cases.Case). c .expected) cases.starred
+pub starred-hold : StarredHold
 unfolding
     notation.upd notation.tabulate notation.concatBelow orElse notation.firstBelow notation.allBelow
     notation.allTrue

@@ -8,11 +8,11 @@ pub mod ToldApart
 pub mod Cases
 pub mod Soundness
 pub mod Demand3
-pub mod ProgramRuns
+pub mod ProgramsAreRuns
 pub mod Untouched
 pub mod AlwaysFound
 pub mod Reached
 pub mod Trace
 pub mod OrderShows
 pub mod NextSend
-pub mod Numbers
+pub mod PresentNumbers

@@ -1,4 +1,4 @@
--- What the programs serve is a run (ProgramsAreRuns of specs/ProgramRuns.antt): each request is served as its call is
+-- What the programs serve is a run (ProgramsAreRuns of specs/ProgramsAreRuns.antt): each request is served as its call is
 -- answered, and by demand 3 every recover on the way says the number of accepted commits.
 use Prim.Native.Nat.{ℕ, suc, _+_, _≤_}
 use mathlib.Core.Path.{_≡_, refl, ap, _∙_}
@@ -17,7 +17,7 @@ use Rattle.model.specs.Program.{Request, Line, Session, lineThen, broken
 use Rattle.model.specs.Program.{session, sessionFrom, sessionOf, Readings, readAll, inputBytes}
 use Rattle.model.specs.Program.{planOf, planLength, shapeRefusal, planRefusal}
 use Rattle.model.specs.Run.{Call, call, recovery, World, replyTo, next, run, trace, firstWorld}
-use Rattle.model.specs.ProgramRuns.{callOf, replyLine, replyLines, ToldLines, ProgramsAreRuns}
+use Rattle.model.specs.ProgramsAreRuns.{callOf, replyLine, replyLines, ToldLines, ProgramsAreRuns}
 use Rattle.model.specs.Recover as recovery
 use Rattle.model.proofs.laws.Lists.{or-else-none}
 use Rattle.model.proofs.laws.Calls.{initialize-refusal}

@@ -1,5 +1,4 @@
--- No call makes a state unsound: a step, whatever its budget, keeps soundness (`step-sound`, `answer-sound`), and an
--- accepted initialize or recover gives a sound state (`initialize-sound`, `recover-sound`).
+-- No call makes a state unsound (the statement is Soundness of specs/Soundness.antt).
 use Prim.Native.Nat.{ℕ, _+_, _<_, _≤_}
 use mathlib.Core.Path.{_≡_, refl, sym, ap, _∙_}
 use mathlib.Core.Bool.{Bool, true, false, cond, not, _||_, Bool·beq}
@@ -25,6 +24,7 @@ use Rattle.model.specs.Phase.{isIdle, isNext}
 use Rattle.model.specs.Layout.{present, Log, messageLog, channelLog, places, entriesFrom}
 use Rattle.model.specs.State.{GlobalState, LogCounts, countOf, raised, raisedAll, idleState, noCounts, noProgress}
 use Rattle.model.specs.Sound.{channelSound, channelSoundIn, phaseSound, lineSound, lastLine, sound}
+use Rattle.model.specs.Soundness.{Soundness}
 use Rattle.model.specs.Change.{withRound, withWord, withTag, withChannel, withProgress, withCounts, inPhase}
 use Rattle.model.specs.Change.{setEntries}
 use Rattle.model.specs.Change.{enterMessage, logicalCheckpoint, close, recordSent, plainChannels, endRound}
@@ -281,3 +281,6 @@ recover-sound T store e =
     (idle-sound T (storedLine store) (recoveredWord T store) (recoveredChannel T store)
     (admitted present T (length store) first .0)
     (recovered-length T store (not-false (countsFit T store) (passed _ fits .0))))
+
+pub soundness : Soundness
+soundness = record { steps = answer-sound; initializes = initialize-sound; recovers = recover-sound }

@@ -16,7 +16,7 @@ use Rattle.model.specs.Outcome.{refusedWith, roomSaid}
 use Rattle.model.specs.Layout.{storeCells}
 use Rattle.model.specs.Program.{fullBudget}
 use Rattle.model.specs.Run.{Reply, trace, firstWorld}
-use Rattle.model.specs.ProgramRuns.{callWith}
+use Rattle.model.specs.ProgramsAreRuns.{callWith}
 
 -- "at most 256 steps"
 abbrev pub listLimit : ℕ

@@ -17,7 +17,7 @@ use Rattle.model.specs.Outcome as says
 use Rattle.model.specs.Record.{Reading, fieldsOf}
 use Rattle.model.specs.Program as program
 use Rattle.model.specs.Run.{World, run, firstWorld}
-use Rattle.model.specs.ProgramRuns.{callOf}
+use Rattle.model.specs.ProgramsAreRuns.{callOf}
 
 -- The output's words as numbers: the code of the first letter. So a line of numbers reads as the program prints it, and
 -- no two lines look alike.

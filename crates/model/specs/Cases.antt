@@ -1,8 +1,9 @@
 -- Document 01, "Cases": those with a star, as one table, with the words that document 02, M-101, gives for them and its
 -- own case, and with what M-104 makes of a send's lines. Each row has what the definitions give and what the papers
--- say, as lines of numbers.
+-- say, as lines of numbers. The theorem is proofs/Cases.antt.
 use Prim.Native.Nat.{ℕ, _+_}
-use mathlib.Core.List.{List, [], _∷_, _++_}
+use mathlib.Core.Path.{_≡_}
+use mathlib.Core.List.{List, [], _∷_, _++_, map}
 use Rattle.model.specs.declared.Step.the-variants.{Begin, Commit, Abort}
 use Rattle.model.specs.Notation.{concatBelow}
 use Rattle.model.specs.Word.{receipt, enter, replay}
@@ -200,3 +201,7 @@ starred =
           ∷ [];
     }
     ∷ []
+
+-- each row gets what the papers expect, as one fact over the table
+abbrev pub StarredHold : Type 0
+StarredHold = map (λ (c : Case). c .got) starred ≡ map (λ (c : Case). c .expected) starred

@@ -1,6 +1,6 @@
 -- The present form of the store, document 02's M-101, and each name of `Form` at it: "Each board log entry becomes body
 -- and wire, stored so, before the count. The board record has 130 cells, the half 2,656 and the store 5,313; wire
--- records start at 2,080 in the half." That these are its numbers is `proofs/Numbers.antt`.
+-- records start at 2,080 in the half." That these are its numbers is stated in PresentNumbers.antt.
 use Prim.Native.Nat.{ℕ}
 use mathlib.Core.List.{List, [], _∷_}
 use Rattle.model.specs.declared.Receipt.{Receipt}

@@ -9,6 +9,7 @@ pub mod Channel
 pub mod Phase
 pub mod Form
 pub mod Layout
+pub mod PresentNumbers
 pub mod State
 pub mod Sound
 pub mod Write
@@ -23,9 +24,11 @@ pub mod Program
 pub mod Heard
 pub mod History
 pub mod Run
+pub mod Trace
 pub mod Demand3
 pub mod Reached
-pub mod ProgramRuns
+pub mod Soundness
+pub mod ProgramsAreRuns
 pub mod AlwaysFound
 pub mod Untouched
 pub mod InOrder

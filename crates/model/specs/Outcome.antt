@@ -1,5 +1,5 @@
 -- What an answer says, in document 01's words and numbers, and what each case of the enums that the code answers with
--- says. Definitions speak of what is said, and every promise about such an enum goes through what its case says.
+-- says. Definitions speak of what is said, and every public promise about such an enum goes through what its case says.
 use Prim.Native.Nat.{ℕ}
 use mathlib.Core.List.{List, [], _∷_}
 use mathlib.Core.Option.{Option, none, some}

@@ -1,5 +1,5 @@
 -- What the programs serve is a run: the lines of a session are the replies to a list of calls after an initialize, so
--- all that holds of such lists holds of `head` and `drill`. The theorem is proofs/ProgramRuns.antt.
+-- all that holds of such lists holds of `head` and `drill`. The theorem is proofs/ProgramsAreRuns.antt.
 use Prim.Native.Nat.{ℕ, _+_, _≤_}
 use mathlib.Core.Path.{_≡_}
 use mathlib.Core.Bool.{Bool}

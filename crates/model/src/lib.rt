@@ -6,7 +6,7 @@ pub const PROCESSES: usize = 16;
 
 pub const CHANNELS: usize = 64;
 
-pub const PLACES: usize = 8;
+pub const CHANNEL_ROOM: usize = 8;
 
 // Document 01's plan: how many processes (boards) and channels (wires) there are, and the two ends of each channel.
 pub struct Topology {
@@ -39,8 +39,8 @@ pub enum Entry {
 // A channel's 8 places, first in first out from place 0. Kind 0 is a message tagged 0, kind 1 a message tagged 1,
 // and any other kind a marker. Places from count on are unused.
 pub struct Channel {
-    pub bodies: [u32; PLACES],
-    pub kinds: [u8; PLACES],
+    pub bodies: [u32; CHANNEL_ROOM],
+    pub kinds: [u8; CHANNEL_ROOM],
     pub count: u8,
 }
 

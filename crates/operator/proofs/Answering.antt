@@ -32,7 +32,7 @@ use Rattle.reduction.proofs.Wholes.{place-within}
 use Rattle.reduction.proofs.Reducing.{sought-long, found-first, found-few}
 use Rattle.operator.specs.declared.list.ListRead.{ListRead}
 use Rattle.operator.specs.Console.{soughtAnswer, listAnswer, planAnswer, reduction}
-use Rattle.operator.specs.ConsoleText.{keptLine, lastLine, partText, partBytes, planBytes, answerText}
+use Rattle.operator.specs.ConsoleText.{keptLine, lastKept, partText, partBytes, planBytes, answerText}
 use Rattle.operator.specs.Lists.{callsIn, brokenOff, ReadsList}
 use Rattle.operator.specs.Printing.{PrintsAnswer}
 use Rattle.operator.proofs.Lines.{plan-line, line}
@@ -76,7 +76,7 @@ module _ (list : CallList) (xs : List ℕ) (h : (i : ℕ) → i < length xs → 
       (concat-cong end (λ i. line-of (callAt list) i (getD (padded said) i 0)) (λ i. line-of call i (getD said i 0))
       (λ i l. ap₂ (λ (x : Record) (room : ℕ). keptLine x (getD xs i 0) room) (same-call i (omega arith))
       (padded-at said i)))
-      (ap (λ (x : Record). lastLine x last n) (same-call end (omega arith)))
+      (ap (λ (x : Record). lastKept x last n) (same-call end (omega arith)))
 
 -- a smallest part is a part of the list, and has a call
 module _ (T : Topology) (list : CallList) {f : Failure} (e : sought T (listed list) ≡ finds f) {xs : List ℕ}

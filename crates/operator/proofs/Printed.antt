@@ -22,7 +22,7 @@ use Rattle.report.specs.Appends.{Appends}
 use Rattle.report.specs.Hex.{callText}
 use Rattle.report.specs.TextBytes.{callBytes, sentBytes, lastBytes}
 use Rattle.report.proofs.Appending.{at-most, _then_}
-use Rattle.operator.specs.ConsoleText.{keptLine, lastLine, partText, partBytes}
+use Rattle.operator.specs.ConsoleText.{keptLine, lastKept, partText, partBytes}
 
 -- a field's bytes, of which an absent one has none
 field-length : (field : ℕ) (bytes : List ℕ) → length (fieldBytes field bytes) ≤ length bytes
@@ -100,7 +100,7 @@ module _ (call : ℕ → Record) {part : Part} (rooms : List ℕ) (h : Held part
   lineAt i place = keptLine (call place) place (getD rooms i 0)
 
   abbrev lastAt : ℕ → List ℕ
-  lastAt place = lastLine (call place) place n
+  lastAt place = lastKept (call place) place n
 
   abbrev line : ℕ → List ℕ
   line i = lineAt i (getD (part .places) i 0)

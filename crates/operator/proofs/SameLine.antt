@@ -1,4 +1,4 @@
--- `converter` says what `console` does: a target's cells decide nothing of how the carrying of a store ends, only their
+-- `converter`'s line is `console`'s: a target's cells decide nothing of how the carrying of a store ends, only their
 -- number does, and that is the same.
 use Prim.Native.Nat.{ℕ}
 use mathlib.Core.Path.{_≡_, refl, sym, _∙_}

@@ -6,16 +6,16 @@ use lib.ListN.{take, length-take}
 use lib.Seq.{take-all}
 use native.Mathlib.Omega.{arith}
 use Rattle.model.specs.Program.{inputBytes}
-use Rattle.operator.specs.Console.{takenBytes, askedIn, takenIn, answerTo, console}
+use Rattle.operator.specs.Console.{bytesTaken, askedIn, takenIn, answerTo, console}
 use Rattle.operator.specs.File.{file}
 use Rattle.operator.specs.TakenBytes.{TakenBytes, HeadAsked}
 
-asked-same : (input : List ℕ) → askedIn (take takenBytes input) ≡ askedIn input
+asked-same : (input : List ℕ) → askedIn (take bytesTaken input) ≡ askedIn input
 unfolding askedIn
 asked-same [] = refl
 asked-same (b ∷ bytes) = refl
 
-taken-same : (input : List ℕ) → takenIn (take takenBytes input) ≡ takenIn input
+taken-same : (input : List ℕ) → takenIn (take bytesTaken input) ≡ takenIn input
 unfolding takenIn
 taken-same [] = refl
 taken-same (b ∷ bytes) = take-all inputBytes (take inputBytes bytes) (rw length-take (omega arith))

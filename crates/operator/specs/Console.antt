@@ -57,8 +57,8 @@ askedIn (b ∷ bytes) =
     (cond (eqb b upgradeAsked) (Carry Upgrade) (cond (eqb b downgradeAsked) (Carry Downgrade) Unknown))
 
 -- how many bytes are taken with it, and what it is asked of: the first 65,536 bytes after it
-abbrev pub takenBytes : ℕ
-takenBytes = 1 + inputBytes
+abbrev pub bytesTaken : ℕ
+bytesTaken = 1 + inputBytes
 
 unfoldable pub takenIn : List ℕ → List ℕ
 takenIn input = take inputBytes (drop 1 input)

@@ -40,14 +40,14 @@ keptLine call place room =
     cond (isSend call) (sentText (writeRecord call) (place + 1) room) (keptText (writeRecord call) (place + 1))
 
 -- the line of the last one, which is refused with n
-abbrev pub lastLine : Record → ℕ → ℕ → List ℕ
-lastLine call place n = lastText (writeRecord call) (place + 1) n
+abbrev pub lastKept : Record → ℕ → ℕ → List ℕ
+lastKept call place n = lastText (writeRecord call) (place + 1) n
 
 -- a line for each kept call, and on the last one its refusal
 abbrev pub partText : (ℕ → Record) → List ℕ → List ℕ → ℕ → List ℕ
 partText call part rooms n =
     concatBelow (length part - 1) (λ i. keptLine (call (getD part i 0)) (getD part i 0) (getD rooms i 0))
-    ++ lastLine (call (getD part (length part - 1) 0)) (getD part (length part - 1) 0) n
+    ++ lastKept (call (getD part (length part - 1) 0)) (getD part (length part - 1) 0) n
 
 abbrev pub doneText : List ℕ
 doneText = chars "done\n"

@@ -1,4 +1,5 @@
--- `converter` says what `console` does. The theorem is proofs/SameLine.antt.
+-- What `converter` prints begins with the line of `console`'s answer. That nothing comes after a refusal's line is read
+-- off File.antt. The theorem is proofs/SameLine.antt.
 use Prim.Native.Nat.{ℕ}
 use mathlib.Core.Path.{_≡_}
 use mathlib.Core.List.{List}
@@ -9,7 +10,7 @@ use Rattle.operator.specs.Console.{askedIn, console}
 use Rattle.operator.specs.ConsoleText.{lineOf}
 use Rattle.operator.specs.File.{file}
 
--- where a store is to be carried, what `converter` prints begins with the line of `console`'s answer
+-- of every input that asks for a store to be carried
 abbrev pub SameLine : Type 0
 SameLine =
     (input : List ℕ) (w : Way) → askedIn input ≡ Carry w

@@ -13,7 +13,7 @@ ghost use lib.ListN.{replicate};
 ghost use Rattle.report.specs.Appends.{Appends, WholeText};
 ghost use Rattle.report.specs.Hex.{refusedText};
 ghost use Rattle.report.specs.TextBytes.{refusedBytes};
-ghost use Rattle.operator.specs.Console.{takenBytes, askedIn, takenIn};
+ghost use Rattle.operator.specs.Console.{bytesTaken, askedIn, takenIn};
 ghost use Rattle.operator.specs.ConsoleText.{consoleBytes, Tells};
 ghost use Rattle.operator.specs.File.{file, fileBytes};
 
@@ -43,7 +43,7 @@ enum Question {
 
 // A buffer for all that is taken of an input.
 pub fn input_buffer() -> [u8; TAKEN_BYTES]
-    ensures { λ r. ⌜ r ≡ replicate takenBytes 0 ⌝ }
+    ensures { λ r. ⌜ r ≡ replicate bytesTaken 0 ⌝ }
 {
     [0; TAKEN_BYTES]
 }

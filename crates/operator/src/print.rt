@@ -14,7 +14,7 @@ ghost use Rattle.record.specs.Written.{longest, written};
 ghost use Rattle.reduction.specs.Parts.{kept, Held};
 ghost use Rattle.report.specs.Appends.{Appends};
 ghost use Rattle.report.specs.TextBytes.{sentBytes, lastBytes};
-ghost use Rattle.operator.specs.ConsoleText.{isSend, keptLine, lastLine, partText, partBytes};
+ghost use Rattle.operator.specs.ConsoleText.{isSend, keptLine, lastKept, partText, partBytes};
 
 // The call at a place of the list, and its bytes.
 fn call_at(list: CallList, place: u8) -> Record
@@ -71,7 +71,7 @@ fn kept(list: CallList, place: u8, room: u8, out: &mut [u8], at: usize) -> usize
 // The line of the last one, which is refused.
 fn last(list: CallList, place: u8, refusal: Refusal, out: &mut [u8], at: usize) -> usize
     ensures { λ r. ⌜ Appends (lastBytes longest) (now (out .entry)) at
-        (lastLine (callAt list place) place (refusalNumber refusal)) (now (out .exit)) r ⌝ }
+        (lastKept (callAt list place) place (refusalNumber refusal)) (now (out .exit)) r ⌝ }
 {
     let written = call_bytes(list, place);
     let bytes = written.bytes;

@@ -9,7 +9,7 @@ use Rattle.model.specs.Outcome.{refusalOf}
 use Rattle.model.specs.Program.{planOf, shapeRefusal, planRefusal}
 use Rattle.model.proofs.laws.Lists.{or-else-none}
 use Rattle.plan.specs.declared.PlanRead.{PlanRead}
-use Rattle.plan.specs.PlanRead.{PlanSaid, planSaid, answered, planIn}
+use Rattle.plan.specs.PlanRead.{PlanSaid, planSaid, planOr, planIn}
 
 -- a plan that is read, and its checks
 pub record Passes (bytes : List ℕ) (T : Topology) : Type 0 where
@@ -19,15 +19,15 @@ pub record Passes (bytes : List ℕ) (T : Topology) : Type 0 where
 
 module _ (r : PlanRead) (bytes : List ℕ) (says : planSaid r ≡ planIn bytes) where
   pub plan-refusal : refusalOf (r .verdict) ≡ planRefusal bytes
-  unfolding planIn answered
+  unfolding planIn planOr
   plan-refusal = ap (λ (x : PlanSaid). x .refusal) says ∙ go (planRefusal bytes)
     where
-      go : (x : Option ℕ) → answered x (planOf bytes) .refusal ≡ x
+      go : (x : Option ℕ) → planOr x (planOf bytes) .refusal ≡ x
       go none = refl
       go (some n) = refl
 
   pub plan-read : refusalOf (r .verdict) ≡ none → Passes bytes (r .topology)
-  unfolding planIn answered planRefusal
+  unfolding planIn planOr planRefusal
   plan-read e =
       let checks : planRefusal bytes ≡ none = sym plan-refusal ∙ e in
       let plan : r .topology ≡ planOf bytes = ap (λ (x : PlanSaid). x .plan) says ∙ rw checks in

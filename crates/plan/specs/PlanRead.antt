@@ -20,10 +20,10 @@ planSaid r = record { refusal = refusalOf (r .verdict); plan = r .topology }
 abbrev pub refusedPlan : ℕ → PlanSaid
 refusedPlan n = record { refusal = some n; plan = blankTopology }
 
-unfoldable pub answered : Option ℕ → Topology → PlanSaid
-answered none T = record { refusal = none; plan = T }
-answered (some n) T = refusedPlan n
+unfoldable pub planOr : Option ℕ → Topology → PlanSaid
+planOr none T = record { refusal = none; plan = T }
+planOr (some n) T = refusedPlan n
 
 -- "The plan's checks run: under two bytes 7; 1; 2; wires broken off 7; 3 to 5."
 unfoldable pub planIn : List ℕ → PlanSaid
-planIn bytes = answered (planRefusal bytes) (planOf bytes)
+planIn bytes = planOr (planRefusal bytes) (planOf bytes)

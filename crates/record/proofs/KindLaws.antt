@@ -11,7 +11,7 @@ use native.Mathlib.Nat.{eq-or-lt-of-le}
 use Rattle.model.specs.declared.Record.{Record}
 use Rattle.model.specs.Record.{Fields, absent, provided, recordOf, withRest}
 use Rattle.model.proofs.laws.Tests.{true-is-not-false, Tested, holds, fails, test}
-use Rattle.record.specs.RecordRead.{gives, refuses, answered}
+use Rattle.record.specs.RecordRead.{recordIs, refuses, recordIn}
 use Rattle.record.specs.Kind.{isRecord, decided}
 
 row-there : (t : Bool) (r : Record) → isRecord (provided t r) ≡ t
@@ -20,13 +20,13 @@ row-there true r = refl
 row-there false r = refl
 
 -- what is answered where a row is there, and where none is
-pub row-answers : (t : Bool) (r : Record) → isRecord (provided t r) ≡ true → gives r ≡ decided (provided t r)
-unfolding provided isRecord withRest answered
+pub row-answers : (t : Bool) (r : Record) → isRecord (provided t r) ≡ true → recordIs r ≡ decided (provided t r)
+unfolding provided isRecord withRest recordIn
 row-answers true r e = refl
 row-answers false r e = true-is-not-false e refl
 
 pub none-answers : (o : Option Record) → isRecord o ≡ false → refuses 7 ≡ decided o
-unfolding isRecord withRest answered
+unfolding isRecord withRest recordIn
 none-answers none e = refl
 none-answers (some r) e = true-is-not-false refl e
 

@@ -18,20 +18,20 @@ use Rattle.record.specs.Field.{readingIn, Fit, Within, Reads}
 use Rattle.record.specs.declared.parse.Parsed.{Parsed}
 use Rattle.record.specs.declared.RecordRead.{RecordRead}
 use Rattle.record.specs.declared.RecordRead.the-variants.{Read, Refused}
-use Rattle.record.specs.RecordRead.{recordSaid, answered, remaining}
+use Rattle.record.specs.RecordRead.{recordSaid, recordIn, remaining}
 use Rattle.record.specs.Parse.{Parses, unread, wholeOf}
 use Rattle.record.specs.Kind.{fields, decided}
 
 -- bytes that don't read
 pub unread-parses : {reading : model.Reading Record} {bytes : List ℕ} {p : Parsed} → reading ≡ none → p ≡ unread
     → Parses reading bytes p
-unfolding answered remaining
+unfolding recordIn remaining
 unread-parses e q = record { answer = rw (e, q); rest = rw (e, q); within = rw q (omega arith) }
 
 -- the end of a reading
 pub whole-parses : {bytes : List ℕ} (x : RecordRead) (o : Option Record) (next : ℕ) → recordSaid x ≡ decided o
     → next ≤ length bytes → Parses (withRest o (drop next bytes)) bytes (wholeOf x next)
-unfolding answered remaining withRest wholeOf
+unfolding recordIn remaining withRest wholeOf
 whole-parses (Read r) none next e h = unread-parses refl (cc)
 whole-parses (Read r) (some y) next e h = record { answer = e; rest = refl; within = h }
 whole-parses (Refused x) none next e h = unread-parses refl refl

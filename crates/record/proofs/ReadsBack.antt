@@ -12,7 +12,7 @@ use Rattle.model.specs.Record as model
 use Rattle.model.specs.Record.{AreBytes, fieldsOf, readRecord, writeFields, writeRecord}
 use Rattle.model.proofs.RoundTrip.{written-reads-back, read-is-written}
 use Rattle.record.specs.declared.Written.{Written}
-use Rattle.record.specs.RecordRead.{gives, answered, remaining}
+use Rattle.record.specs.RecordRead.{recordIs, recordIn, remaining}
 use Rattle.record.specs.Written.{holding, bytesOf, written}
 
 counted : (r : Record) → bytesOf (written r) ≡ writeRecord r
@@ -25,14 +25,14 @@ pub written-reads : {w : Written} (r : Record) (after : List ℕ) → fieldsOf r
     → readRecord (bytesOf w ++ after) ≡ some (r, after)
 written-reads r after h e = rw (e, counted r) (written-reads-back r after h)
 
-module _ (bytes : List ℕ) (r : Record) (h : AreBytes bytes) (reads : answered (readRecord bytes) ≡ gives r) where
+module _ (bytes : List ℕ) (r : Record) (h : AreBytes bytes) (reads : recordIn (readRecord bytes) ≡ recordIs r) where
   -- The bytes of a slice that `read` answers r to are those that `write` answers of r, and then those that `rest`
   -- answers.
   pub read-writes : bytes ≡ bytesOf (written r) ++ remaining (readRecord bytes) bytes
-  unfolding answered remaining
+  unfolding recordIn remaining
   read-writes = go (readRecord bytes) refl reads
     where
-      go : (x : model.Reading Record) → readRecord bytes ≡ x → answered x ≡ gives r
+      go : (x : model.Reading Record) → readRecord bytes ≡ x → recordIn x ≡ recordIs r
           → bytes ≡ bytesOf (written r) ++ remaining x bytes
       go none e a = let z : _≡_ {A = ℕ} 0 1 = cc in absurd (omega arith)
       go (some y) e a = rw (counted r) (cc (read-is-written bytes (y .0) (y .1) h e))

@@ -5,7 +5,7 @@ use mathlib.Core.List.{[]}
 use mathlib.Core.Option.{Option, none, some}
 use Rattle.model.specs.declared.Record.{Record}
 use Rattle.model.specs.Record.{Fields, withRest}
-use Rattle.record.specs.RecordRead.{RecordSaid, answered}
+use Rattle.record.specs.RecordRead.{RecordSaid, recordIn}
 
 abbrev pub fields : ℕ → ℕ → ℕ → ℕ → Fields
 fields kind process channel body = record { kind = kind; process = process; channel = channel; body = body }
@@ -17,4 +17,4 @@ isRecord (some r) = true
 
 -- a row's answer, whatever bytes are left
 abbrev pub decided : Option Record → RecordSaid
-decided row = answered (withRest row [])
+decided row = recordIn (withRest row [])

@@ -9,11 +9,11 @@ use Rattle.model.specs.Record as model
 use Rattle.record.specs.declared.RecordRead.{RecordRead}
 use Rattle.record.specs.declared.RecordRead.the-variants.{Read, Refused}
 use Rattle.record.specs.declared.parse.Parsed.{Parsed}
-use Rattle.record.specs.RecordRead.{recordSaid, answered, remaining}
+use Rattle.record.specs.RecordRead.{recordSaid, recordIn, remaining}
 
 -- both parts of a reading that the bytes begin with
 pub record Parses (reading : model.Reading Record) (bytes : List ℕ) (p : Parsed) : Type 0 where
-  pub answer : recordSaid (p .reading) ≡ answered reading
+  pub answer : recordSaid (p .reading) ≡ recordIn reading
   pub rest : drop (p .next) bytes ≡ remaining reading bytes
   pub within : p .next ≤ length bytes
 

@@ -16,7 +16,7 @@ ghost use mathlib.Core.Path.{_≡_};
 ghost use mathlib.Core.List.{[]};
 ghost use mathlib.Core.Option.{some};
 ghost use Rattle.model.specs.Record.{readRecord};
-ghost use Rattle.record.specs.RecordRead.{recordSaid, answered, remaining};
+ghost use Rattle.record.specs.RecordRead.{recordSaid, recordIn, remaining};
 ghost use Rattle.record.specs.Written.{bytesOf, written};
 
 // What bytes begin with: a record, or refusal 7.
@@ -36,7 +36,7 @@ pub struct Written {
 
 // The record that the bytes begin with, or refusal 7.
 pub fn read(bytes: &[u8]) -> RecordRead
-    ensures { λ r. ⌜ recordSaid r ≡ answered (readRecord (now (bytes .entry))) ⌝ }
+    ensures { λ r. ⌜ recordSaid r ≡ recordIn (readRecord (now (bytes .entry))) ⌝ }
 {
     let p = parse(bytes);
     p.reading

@@ -1,6 +1,6 @@
 // The logs in the store, as recover reads them: an index runs from entry to entry.
+use model::CHANNEL_ROOM;
 use model::Channel;
-use model::PLACES;
 use model::Receipt;
 use rules::layout;
 use rules::word;
@@ -40,7 +40,7 @@ pub fn fill(store: &[u32], at: usize) -> Channel
 {
     let n = store[at] as usize;
     let mut entry = at + 1;
-    let mut bodies = [0; PLACES];
+    let mut bodies = [0; CHANNEL_ROOM];
     let mut i = 0;
     while i < n {
         bodies[i] = store[entry];
@@ -49,7 +49,7 @@ pub fn fill(store: &[u32], at: usize) -> Channel
     }
     Channel {
         bodies,
-        kinds: [0; PLACES],
+        kinds: [0; CHANNEL_ROOM],
         count: n as u8,
     }
 }

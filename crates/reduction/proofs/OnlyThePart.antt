@@ -13,7 +13,7 @@ use Rattle.reduction.specs.declared.Finding.{Finding}
 use Rattle.reduction.specs.declared.Finding.the-variants as found
 use Rattle.reduction.specs.declared.Reduced.{Reduced}
 use Rattle.reduction.specs.declared.part.Part.{Part}
-use Rattle.reduction.specs.Parts.{kept, holding, Held}
+use Rattle.reduction.specs.Parts.{kept, partOf, Held}
 use Rattle.reduction.specs.Reduces.{soughtIn, Reduces}
 use Rattle.reduction.specs.OnlyThePart.{OnlyThePart}
 
@@ -32,7 +32,7 @@ found-fixed (found.Refused r) (found.Refused s) e =
     rw (told-apart .refusals r s both)
 
 part-fixed : {a b : Part} → Held a → Held b → kept a ≡ kept b → a ≡ b
-part-fixed h k e = h .whole ∙ (ap holding e ∙ sym (k .whole))
+part-fixed h k e = h .whole ∙ (ap partOf e ∙ sym (k .whole))
 
 fixed : (T : Topology) (calls : List Record) (r s : Reduced) → Reduces T calls r → Reduces T calls s
     → kept (r .part) ≡ kept (s .part) → r ≡ s

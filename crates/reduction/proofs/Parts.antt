@@ -17,7 +17,7 @@ use Rattle.model.proofs.laws.Tests.{Tested, test, holds, fails}
 use Rattle.model.proofs.laws.Lists.{tabulate-length, tabulate-at}
 use Rattle.model.proofs.laws.Functions.{seen-replicate, filledBelow, filled-none, filled-more, getD-within}
 use Rattle.reduction.specs.declared.part.Part.{Part}
-use Rattle.reduction.specs.Parts.{kept, padded, holding, Held, withoutBlock, past}
+use Rattle.reduction.specs.Parts.{kept, padded, partOf, Held, withoutBlock, past}
 
 -- the first n places of a list
 abbrev pub numbers : ℕ → List ℕ
@@ -46,14 +46,14 @@ padded-at xs i = go (test (ltb i (length xs)))
         ∙ sym (List·getD-eq-default xs 0 {n = i} (ltb-false i (length xs) t))
 
 -- the places that a held part keeps
-pub kept-holding : (xs : List ℕ) → kept (holding xs) ≡ xs
-unfolding holding
+pub kept-holding : (xs : List ℕ) → kept (partOf xs) ≡ xs
+unfolding partOf
 kept-holding xs = take-at xs (unused xs) (length xs) refl
 
 -- how many they are, and what stands at one of them
 module _ {part : Part} (h : Held part) where
   pub kept-length : length (kept part) ≡ part .count
-  unfolding holding
+  unfolding partOf
   kept-length = sym (ap (λ (p : Part). p .count) (h .whole))
 
   pub kept-at : (i : ℕ) → i < part .count → getD (kept part) i 0 ≡ getD (part .places) i 0
@@ -71,9 +71,9 @@ module _ {part : Part} (h : Held part) where
       getD-within (map (callAt list) (kept part)) i Recover (callAt list 0) within
       ∙ List·getD-map (callAt list) (kept part) i 0 ∙ ap (callAt list) (kept-at i l)
 
-pub held-holding : (xs : List ℕ) → length xs ≤ listLimit → Held (holding xs)
-unfolding holding
-held-holding xs l = record { within = l; whole = ap holding (sym (kept-holding xs)) }
+pub held-holding : (xs : List ℕ) → length xs ≤ listLimit → Held (partOf xs)
+unfolding partOf
+held-holding xs l = record { within = l; whole = ap partOf (sym (kept-holding xs)) }
 
 -- an array with the first i of the places xs, and 0 past them: none, one more, all
 pub record Filled (xs places : List ℕ) (i : ℕ) : Type 0 where
@@ -110,8 +110,8 @@ module _ {xs : List ℕ} where
         below-end j (fails t) = rw t (sym (List·getD-eq-default xs 0 {n = j} (ltb-false j (length xs) t)))
 
     pub part-filled : {count : ℕ} → length xs ≤ i → length xs ≤ listLimit → count ≡ length xs
-        → record { places = places; count = count } ≡ holding xs
-    unfolding holding
+        → record { places = places; count = count } ≡ partOf xs
+    unfolding partOf
     part-filled l few e = rw (all-filled l few, e)
 
 -- past a gap, places are within the list, and rise

@@ -23,7 +23,7 @@ use Rattle.reduction.specs.declared.Finding.the-variants as found
 use Rattle.reduction.specs.declared.replay.Replayed.{Replayed}
 use Rattle.reduction.specs.Parts.{kept, padded, Held}
 use Rattle.reduction.specs.Replays.{Replays, calls}
-use Rattle.reduction.specs.Reduces.{refusedBy, Reduces}
+use Rattle.reduction.specs.Reduces.{refusedList, Reduces}
 use Rattle.reduction.proofs.Parts.{kept-holding, held-holding}
 use Rattle.reduction.proofs.Shrinking.{below, calls-at}
 use Rattle.reduction.proofs.Wholes.{listed-place}
@@ -68,7 +68,7 @@ module _ (T : Topology) (calls : List Record) where
           let absurdly : length calls ≡ listLimit = cc in
           omega (arith, absurdly)
 
-  pub refused-reduces : (r : Refusal) → sought T calls ≡ refuses (refusalNumber r) → Reduces T calls (refusedBy r)
+  pub refused-reduces : (r : Refusal) → sought T calls ≡ refuses (refusalNumber r) → Reduces T calls (refusedList r)
   unfolding replies trace roomsOf rooms
   refused-reduces r e =
       record {

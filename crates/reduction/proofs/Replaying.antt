@@ -16,7 +16,7 @@ use Rattle.model.specs.Outcome.{refusalNumber, refusedWith, roomSaid}
 use Rattle.model.specs.State.{view}
 use Rattle.model.specs.Program.{Served, fullBudget, serve}
 use Rattle.model.specs.Run.{Call, World, Reply, replyTo, next, trace}
-use Rattle.model.specs.ProgramRuns.{callWith}
+use Rattle.model.specs.ProgramsAreRuns.{callWith}
 use Rattle.model.specs.CallList.{listLimit, firstFrom, roomsOf}
 use Rattle.model.proofs.laws.CallLists.{served, fails-here, fails-later, rooms-end, rooms-go-on}
 use Rattle.reduction.specs.declared.replay.End.the-variants.{Refused, Through}

@@ -17,7 +17,7 @@ use Rattle.model.proofs.laws.Tests.{true-is-not-false, and-left, and-right, and
 use Rattle.model.proofs.laws.Functions.{Indices, same, other, indices}
 use Rattle.model.proofs.laws.Lists.{tabulate-at}
 use Rattle.reduction.specs.declared.part.Part.{Part}
-use Rattle.reduction.specs.Parts.{kept, holding, Held, withoutBlock}
+use Rattle.reduction.specs.Parts.{kept, partOf, Held, withoutBlock}
 use Rattle.reduction.specs.Replays.{calls, endsWith}
 use Rattle.reduction.specs.Passes.{Failing}
 use Rattle.reduction.proofs.Parts.{kept-holding, kept-length, held-holding, without-length, without-rising}
@@ -81,9 +81,9 @@ module _ {T : Topology} {list : CallList} {f : Failure} {part : Part} (p : Faili
   rest-rising : Rising rest
   rest-rising = without-rising (kept part) from to h inside (p .fails .rising)
 
-  module _ {q : Part} (e : q ≡ holding rest) where
+  module _ {q : Part} (e : q ≡ partOf rest) where
     count-is : q .count ≡ length rest
-    unfolding holding
+    unfolding partOf
     count-is = ap (λ (x : Part). x .count) e
 
     replayed : firstFailure T (calls list q) ≡ firstFailure T (callsAt (listed list) rest)

@@ -15,12 +15,12 @@ use Rattle.model.specs.Outcome.{refusedWith}
 use Rattle.model.specs.Layout.{storeCells}
 use Rattle.model.specs.Program.{fullBudget}
 use Rattle.model.specs.Run.{Call, World, replyTo, next, trace, firstWorld}
-use Rattle.model.specs.ProgramRuns.{callWith}
+use Rattle.model.specs.ProgramsAreRuns.{callWith}
 use Rattle.model.specs.CallList.{callAt, listed, listLimit, Failure, failureOr, firstFrom, replies, firstFailure}
 use Rattle.model.specs.Reduction.{callsAt, Fails}
 use Rattle.model.proofs.laws.Lists.{tabulate-length, map-tabulate, tabulate-at}
 use Rattle.reduction.specs.declared.part.Part.{Part}
-use Rattle.reduction.specs.Parts.{holding, Held}
+use Rattle.reduction.specs.Parts.{partOf, Held}
 use Rattle.reduction.specs.Replays.{calls}
 use Rattle.reduction.specs.Passes.{Failing}
 use Rattle.reduction.proofs.Parts.{numbers, numbers-length, numbers-at, kept-holding, held-holding}
@@ -30,10 +30,10 @@ unfolding listed
 listed-length list = tabulate-length (list .count) (callAt list)
 
 -- the part of so many calls, and of all
-pub held-places : {part : Part} {n : ℕ} → n ≤ listLimit → part ≡ holding (numbers n) → Held part
+pub held-places : {part : Part} {n : ℕ} → n ≤ listLimit → part ≡ partOf (numbers n) → Held part
 held-places {n = n} l e = rw e (held-holding (numbers n) (rw (numbers-length n) l))
 
-pub all-calls : (list : CallList) {part : Part} → part ≡ holding (numbers (list .count)) → calls list part ≡ listed list
+pub all-calls : (list : CallList) {part : Part} → part ≡ partOf (numbers (list .count)) → calls list part ≡ listed list
 unfolding listed
 all-calls list e = rw (e, kept-holding (numbers (list .count))) (map-tabulate (callAt list) (list .count) (λ i. i))
 
@@ -126,7 +126,7 @@ module _ (T : Topology) (list : CallList) (f : Failure) (e : firstFailure T (lis
         failure = found;
       }
 
-  pub whole-fails : {part : Part} → f .place < listLimit → part ≡ holding up-to → Failing T list f part
+  pub whole-fails : {part : Part} → f .place < listLimit → part ≡ partOf up-to → Failing T list f part
   whole-fails few e =
       record {
         held = held-places (omega arith) e;

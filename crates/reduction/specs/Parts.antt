@@ -17,13 +17,13 @@ abbrev pub padded : List ℕ → List ℕ
 padded xs = xs ++ replicate (listLimit - length xs) 0
 
 -- a part of these places
-unfoldable pub holding : List ℕ → Part
-holding places = record { places = padded places; count = length places }
+unfoldable pub partOf : List ℕ → Part
+partOf places = record { places = padded places; count = length places }
 
 -- a part that holds no more places than there are, and 0 in those after them
 pub record Held (part : Part) : Type 0 where
   pub within : part .count ≤ listLimit
-  pub whole : part ≡ holding (kept part)
+  pub whole : part ≡ partOf (kept part)
 
 -- without those at from to before to
 abbrev pub withoutBlock : ℕ → ℕ → List ℕ → List ℕ

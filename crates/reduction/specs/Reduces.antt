@@ -10,7 +10,7 @@ use Rattle.model.specs.Reduction.{Sought, refuses, finds, callsAt, sought, Part
 use Rattle.reduction.specs.declared.Finding.{Finding}
 use Rattle.reduction.specs.declared.Finding.the-variants as found
 use Rattle.reduction.specs.declared.Reduced.{Reduced}
-use Rattle.reduction.specs.Parts.{kept, padded, holding, Held}
+use Rattle.reduction.specs.Parts.{kept, padded, partOf, Held}
 
 -- what each case of the code's answer says
 abbrev pub soughtIn : Finding → Sought
@@ -18,8 +18,8 @@ soughtIn (found.Failure place r) = finds (record { place = place; number = refus
 soughtIn (found.Refused r) = refuses (refusalNumber r)
 
 -- a refusal, and the empty part
-abbrev pub refusedBy : Refusal → Reduced
-refusedBy r = record { found = found.Refused r; part = holding []; rooms = padded [] }
+abbrev pub refusedList : Refusal → Reduced
+refusedList r = record { found = found.Refused r; part = partOf []; rooms = padded [] }
 
 -- The refusal, or the list's first failure with its number, is the definition's. The part is one that the definition
 -- allows and no more is said of it: "Which of several such parts comes back is left open." But it comes back in one

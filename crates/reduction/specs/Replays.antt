@@ -14,7 +14,7 @@ use Rattle.model.specs.State.{view}
 use Rattle.model.specs.Program.{fullBudget}
 use Rattle.model.specs.History.{newHistory}
 use Rattle.model.specs.Run.{World, Reply, trace}
-use Rattle.model.specs.ProgramRuns.{callWith}
+use Rattle.model.specs.ProgramsAreRuns.{callWith}
 use Rattle.model.specs.CallList.{callAt, Failure, firstFrom, roomsOf}
 use Rattle.reduction.specs.declared.part.Part.{Part}
 use Rattle.reduction.specs.declared.replay.End.{End}

@@ -13,7 +13,7 @@ use model::Verdict;
 pub use part::Part;
 ghost use mathlib.Core.Path.{_≡_};
 ghost use Rattle.model.specs.CallList.{listed};
-ghost use Rattle.reduction.specs.Reduces.{refusedBy, Reduces};
+ghost use Rattle.reduction.specs.Reduces.{refusedList, Reduces};
 
 // What is answered: the place of the list's first refused call, counted from 0, and its refusal; or why there is none.
 pub enum Finding {
@@ -31,7 +31,7 @@ pub struct Reduced {
 
 // A refusal, and the empty part.
 fn refused(refusal: Refusal) -> Reduced
-    ensures { λ r. ⌜ r ≡ refusedBy refusal ⌝ }
+    ensures { λ r. ⌜ r ≡ refusedList refusal ⌝ }
 {
     let part = part::first(0);
     Reduced {

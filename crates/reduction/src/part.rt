@@ -4,7 +4,7 @@ ghost use mathlib.Core.Path.{_≡_};
 ghost use Prim.Native.Nat.{_+_, _≤_};
 ghost use Rattle.model.specs.Notation.{tabulate};
 ghost use Rattle.model.specs.CallList.{listLimit};
-ghost use Rattle.reduction.specs.Parts.{kept, holding, Held, withoutBlock, past};
+ghost use Rattle.reduction.specs.Parts.{kept, partOf, Held, withoutBlock, past};
 
 // The places of its calls in the list, and how many they are; 0 in the places after them.
 pub struct Part {
@@ -15,7 +15,7 @@ pub struct Part {
 // The first n calls of a list.
 pub fn first(n: u16) -> Part
     requires { ⌜ n ≤ listLimit ⌝ }
-    ensures { λ r. ⌜ r ≡ holding (tabulate n (λ i. i)) ⌝ }
+    ensures { λ r. ⌜ r ≡ partOf (tabulate n (λ i. i)) ⌝ }
 {
     let mut places = [0; LISTED];
     let mut i: u16 = 0;
@@ -37,7 +37,7 @@ fn past(from: u16, gap: u16, i: u16) -> u16
 // A part without its calls from the place from to before the place to.
 pub fn without(part: Part, from: u16, to: u16) -> Part
     requires { ⌜ (from ≤ to) × (to ≤ part .count) × Held part ⌝ }
-    ensures { λ r. ⌜ r ≡ holding (withoutBlock from to (kept part)) ⌝ }
+    ensures { λ r. ⌜ r ≡ partOf (withoutBlock from to (kept part)) ⌝ }
 {
     let gap = to - from;
     let count = part.count - gap;

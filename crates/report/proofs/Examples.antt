@@ -1,6 +1,5 @@
 -- The examples hold of the definitions: one fact over the table, by computation.
-use mathlib.Core.Path.{_≡_, refl}
-use mathlib.Core.List.{map}
+use mathlib.Core.Path.{refl}
 use mathlib.Core.Option.{orElse}
 use Rattle.model.specs.Notation as notation
 use Rattle.model.specs.Check as check
@@ -23,9 +22,9 @@ use Rattle.model.specs.Cases as cases
 use Rattle.report.specs.Text as text
 use Rattle.report.specs.Hex as hex
 use Rattle.report.specs.Examples as examples
+use Rattle.report.specs.Examples.{ExamplesHold}
 
-pub examples-hold : map (λ (e : examples.Example). e .got) examples.examples
-    ≡ map (λ (e : examples.Example). e .expected) examples.examples
+pub examples-hold : ExamplesHold
 unfolding
     notation.upd notation.tabulate notation.concatBelow orElse notation.firstBelow
     notation.allBelow notation.allTrue

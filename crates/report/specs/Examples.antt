@@ -1,8 +1,9 @@
 -- Document 01's listing, a line of each kind that it has none of, and a reduced list's lines, as one table: what the
--- definitions give, and the text.
+-- definitions give, and the text. The theorem is proofs/Examples.antt.
 use Prim.Native.Nat.{ℕ}
 use Prim.Native.String.{String}
-use mathlib.Core.List.{List, [], _∷_, _++_}
+use mathlib.Core.Path.{_≡_}
+use mathlib.Core.List.{List, [], _∷_, _++_, map}
 use Rattle.model.specs.Outcome.{refused, cut}
 use Rattle.model.specs.Program.{head}
 use Rattle.model.specs.Cases.{input}
@@ -65,3 +66,7 @@ examples =
     ∷ record { got = keptText (0xFA ∷ 0x9C ∷ []) 10; expected = lines ("FA 9C # 10" ∷ []) }
     ∷ record { got = refusedText 17; expected = lines ("refused 17" ∷ []) }
     ∷ []
+
+-- each has the text that is expected, as one fact over the table
+abbrev pub ExamplesHold : Type 0
+ExamplesHold = map (λ (e : Example). e .got) examples ≡ map (λ (e : Example). e .expected) examples

@@ -6,15 +6,15 @@ ghost use Rattle.model.specs.Channel.{entryOf, entryAt, entries, roomLeft};
 ghost use Rattle.model.specs.State.{emptyChannel};
 
 // How many entries a channel has room for, as a count.
-pub const ROOM: u8 = model::PLACES as u8;
+pub const ROOM: u8 = model::CHANNEL_ROOM as u8;
 
 // A channel with no entry.
 pub fn empty() -> Channel
     ensures { λ r. ⌜ r ≡ emptyChannel ⌝ }
 {
     Channel {
-        bodies: [0; model::PLACES],
-        kinds: [0; model::PLACES],
+        bodies: [0; model::CHANNEL_ROOM],
+        kinds: [0; model::CHANNEL_ROOM],
         count: 0,
     }
 }

@@ -10,7 +10,7 @@ use Rattle.model.specs.declared.Record.the-variants as records
 use Rattle.model.specs.Outcome.{refusedWith, roomSaid}
 use Rattle.model.specs.Program.{ofAnswer, ofStartup, serve}
 use Rattle.model.specs.Run.{Call, World, replyTo, next, trace, stateAfter, storeAfter}
-use Rattle.model.specs.ProgramRuns.{callWith}
+use Rattle.model.specs.ProgramsAreRuns.{callWith}
 use Rattle.model.specs.CallList.{failureOr, firstFrom, roomsUnless, roomsOf}
 
 module _ (T : Topology) where

@@ -4,12 +4,12 @@ use mathlib.Core.Path.{sym, ap, _∙_}
 use mathlib.Core.Option.{orElse}
 use Rattle.model.specs.Outcome.{refusalOf}
 use Rattle.model.specs.Program.{planRefusal}
-use Rattle.plan.specs.PlanRead.{answered, planIn}
+use Rattle.plan.specs.PlanRead.{planOr, planIn}
 use Rattle.plan.proofs.read.Statement.{statement}
 use Rattle.plan.proofs.read.Tie as tie
 
 misshapen : tie.Need-returns
-unfolding refusalOf planRefusal orElse planIn answered
+unfolding refusalOf planRefusal orElse planIn planOr
 misshapen c =
     let told = c .before .before in
     let k = told .before .before in
@@ -20,7 +20,7 @@ unfolding refusalOf
 shaped c κs = sym (c .before .before .check .ensures) ∙ ap refusalOf (c .enum-told .given .1)
 
 refused : tie.Need-returns-2
-unfolding refusalOf planRefusal orElse planIn answered
+unfolding refusalOf planRefusal orElse planIn planOr
 refused c =
     let told = c .before .before in
     let k = told .before .before in
@@ -29,7 +29,7 @@ refused c =
     ∙ rw (shaped (p .before) _, ← p .topology .ensures, sym (k .check2 .ensures) ∙ ap refusalOf (told .r2 .given .1))
 
 passes : tie.Need-returns-3
-unfolding refusalOf planRefusal orElse planIn answered
+unfolding refusalOf planRefusal orElse planIn planOr
 passes c =
     let k = c .before .before in
     let p = k .before in

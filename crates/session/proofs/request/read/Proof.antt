@@ -4,7 +4,7 @@ use mathlib.Core.Path.{_≡_, sym, ap, _∙_}
 use mathlib.Core.Option.{some}
 use Rattle.model.specs.Record.{andThen, readRecord}
 use Rattle.model.specs.Program.{readBudget, readRequest}
-use Rattle.record.specs.RecordRead.{recordSaid, answered}
+use Rattle.record.specs.RecordRead.{recordSaid, recordIn}
 use Rattle.session.specs.RequestRead.{sourceOf, requested, afterBudget}
 use Rattle.record.proofs.Answered.{no-record, a-record}
 use Rattle.session.proofs.Requests.{no-budget, a-budget}
@@ -30,7 +30,7 @@ module _ (c : tie.After-read) where
   lasts = a-budget _ _ (sym (budget .before .before .budget-of .ensures) ∙ budget .budget .given .1)
 
   answers : recordSaid (c .read .result)
-      ≡ answered (readRecord (afterBudget (sourceOf (start .args .source)) (start .args .bytes .now)))
+      ≡ recordIn (readRecord (afterBudget (sourceOf (start .args .source)) (start .args .bytes .now)))
   answers = rw (← c .before .record-bytes .ensures) (c .read .ensures)
 
 none-read : tie.Need-returns-2

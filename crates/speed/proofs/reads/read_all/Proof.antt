@@ -7,7 +7,7 @@ use mathlib.Core.List.{List}
 use lib.ListN.{length}
 use Rattle.model.specs.declared.Record.{Record}
 use Rattle.model.specs.Record.{AreBytes, readRecord}
-use Rattle.record.specs.RecordRead.{gives, recordSaid, answered, remaining}
+use Rattle.record.specs.RecordRead.{recordIs, recordSaid, recordIn, remaining}
 use Rattle.record.specs.Written.{bytesOf, written}
 use Rattle.model.proofs.laws.RecordLaws.{later-bytes}
 use Rattle.record.proofs.ReadsBack.{read-writes, read-shortens}
@@ -21,7 +21,7 @@ abbrev μ-loop : tie.MeasureT-loop
 μ-loop sum bytes r₀ left₀ r left = length left
 
 -- the bytes after a record that was read
-rest-bytes : (bytes : List ℕ) (r : Record) → AreBytes bytes → answered (readRecord bytes) ≡ gives r
+rest-bytes : (bytes : List ℕ) (r : Record) → AreBytes bytes → recordIn (readRecord bytes) ≡ recordIs r
     → AreBytes (remaining (readRecord bytes) bytes)
 rest-bytes bytes r h e =
     later-bytes (bytesOf (written r)) (remaining (readRecord bytes) bytes) (read-writes bytes r h e) h
@@ -31,8 +31,8 @@ module _ (c : tie.After-rest Inv-loop μ-loop) where
   abbrev at-loop : tie.At-loop Inv-loop μ-loop
   at-loop = c .before .before .before .before .before .before .before .before
 
-  answer : answered (readRecord (at-loop .loop .left .now))
-      ≡ gives (c .before .before .before .before .found .given .0 .0)
+  answer : recordIn (readRecord (at-loop .loop .left .now))
+      ≡ recordIs (c .before .before .before .before .found .given .0 .0)
   answer =
       let f = c .before .before .before .before in
       sym (f .before .before .read .ensures) ∙ ap recordSaid (f .found .given .1)
