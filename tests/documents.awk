@@ -71,7 +71,7 @@ FNR == 1 { documents++; inside = fenced = 0 }
 documents == 1 { sub(/^\.\//, ""); tree[$0]; next }
 limit(FILENAME) && FNR == limit(FILENAME) + 1 { complain(FILENAME ":" FNR ": longer than " limit(FILENAME) " lines") }
 width($0) > 100 { complain(FILENAME ":" FNR ": " width($0) " columns, and 100 are allowed") }
-/(^|[^A-Za-z])(TODO|TBD|XXX|FIXME)([^A-Za-z]|$)|@@/ { complain(FILENAME ":" FNR ": a mark for something to write") }
+/(^|[^A-Za-z])(TODO|TBD|XXX|FIXME|[A-Z]+_(TIME|TIMES|FIGURE))([^A-Za-z]|$)|@@/ { complain(FILENAME ":" FNR ": a mark for something to write") }
 { spans($0) }
 
 END {

@@ -111,6 +111,7 @@ function load(file,    line, depth, i, head, at) {
         if (line ~ /\{-/) complain(file ": a comment in braces, which is not read")
         line = bare(line)
         if (line ~ /^ *$/) continue
+        if (line ~ /^ +(pub )?use /) complain(file ": a use that is indented, which is not read")
         if (line ~ /^(pub )?use /) bring(file, line)
         if (line ~ /^(pub )?(use|mod) |^infix/) continue
         i = indent(line)
@@ -168,7 +169,8 @@ function unlisted(file, word) {
     return !((file, plain(word)) in listed)
 }
 
-# A name that a text names: where it comes from. In specs/ only what is of the same file has to be listed.
+# A name that a text names: where it comes from. What is of the same file has to be listed, and, where a theorem names
+# it, what is of proofs/; and none comes under another name than its own.
 function origin(file, name, word, place,    path, own) {
     sub(/\.$/, "", word)
     if (word == "" || word ~ /^\./ || plain(word) == name) return
@@ -176,11 +178,10 @@ function origin(file, name, word, place,    path, own) {
         if (unlisted(file, word)) complain(place ": " name " names " word " of its own file, which is not listed")
         return
     }
-    if (file ~ /\/specs\//) return
     path = own = word
     sub(/\..*$/, "", own)
     if ((file, plain(own)) in from) path = from[file, plain(own)]
-    if (file_of(path) ~ /\/proofs\// && unlisted(file_of(path), word))
+    if (file ~ /\/proofs\// && file_of(path) ~ /\/proofs\// && unlisted(file_of(path), word))
         complain(place ": " name " names " word " of " path ", which is not listed")
     else if (file_of(path) != "" && (file, plain(word)) in called && called[file, plain(word)] != word)
         complain(place ": " name " names " word ", which is " called[file, plain(word)] " of " path)
