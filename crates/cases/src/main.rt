@@ -1,7 +1,8 @@
 // Cases that no input of the programs can make: a state or a store is made by hand, and the engine is called on it.
-// A line for each: "ok" or "FAILED", and the papers' sentence, or ours where they have none. The other cases of document
-// 01 are in tests/scripts/. Its words here (docs/VOCABULARY.md): copying and marking are the physical and the logical
-// phase, to copy and to mark a board a process's physical and logical checkpoint, to take a message to receive it.
+// A line for each: "ok" or "FAILED", and the papers' sentence, or ours where they have none. The other cases of
+// document 01 are in tests/scripts/. Its words here (docs/VOCABULARY.md): copying and marking are the physical and the
+// logical phase, to copy and to mark a board a process's physical and logical checkpoint, to take a message to receive
+// it.
 // Unless a case says otherwise it starts from the state that initialize leaves for the plan of document 01's listing:
 // two processes, channel 0 from 0 to 1 and channel 1 back. `send(1)`, `sent(2)`: on channel 1, and 2 places are left.
 mod expected;

@@ -1,5 +1,5 @@
--- What the programs serve is a run (ProgramsAreRuns of specs/ProgramsAreRuns.antt): each request is served as its call is
--- answered, and by demand 3 every recover on the way says the number of accepted commits.
+-- What the programs serve is a run (the statement is ProgramsAreRuns of specs/ProgramsAreRuns.antt): each request is
+-- served as its call is answered, and by demand 3 every recover on the way says the number of accepted commits.
 use Prim.Native.Nat.{ℕ, suc, _+_, _≤_}
 use mathlib.Core.Path.{_≡_, refl, ap, _∙_}
 use mathlib.Core.Bool.{Bool}
