@@ -2,6 +2,7 @@
 // differ from that at the end.
 use crate::cell_line;
 use rules::layout::STORE_CELLS;
+use rules::word::MODULUS;
 ghost use mathlib.Core.Path.{_≡_};
 ghost use Prim.Native.Nat.{_*_, _<_};
 ghost use Rattle.model.specs.Layout.{storeCells};
@@ -15,7 +16,7 @@ fn start_cell(i: usize) -> u32
     ensures { λ r. ⌜ r ≡ startCell i ⌝ }
 {
     let product = 2654435761 * (i as u64);
-    (product % 4294967296) as u32
+    (product % MODULUS) as u32
 }
 
 // The store at first.

@@ -6,7 +6,8 @@ ghost use Rattle.model.specs.Word.{enter};
 
 const FACTOR: u64 = 31;
 
-const MODULUS: u64 = 4294967296;
+// 2^32.
+pub const MODULUS: u64 = 4294967296;
 
 // 31 times a word, wrapped: for this rule, and for document 01's before it.
 pub fn product(word: u32) -> u32
