@@ -1,7 +1,7 @@
 -- No call makes a state unsound (the statement is Soundness of specs/Soundness.antt).
 use Prim.Native.Nat.{ℕ, _+_, _<_, _≤_}
 use mathlib.Core.Path.{_≡_, refl, sym, ap, _∙_}
-use mathlib.Core.Bool.{Bool, true, false, cond, not, _||_, Bool·beq}
+use mathlib.Core.Bool.{Bool, true, false, cond, not, _||_}
 use mathlib.Core.List.{List, [], _∷_, _++_}
 use mathlib.Core.Option.{none}
 use lib.ListN.{length, length-append, length-map}
@@ -28,7 +28,7 @@ use Rattle.model.specs.Soundness.{Soundness}
 use Rattle.model.specs.Change.{withRound, withWord, withTag, withChannel, withProgress, withCounts, inPhase}
 use Rattle.model.specs.Change.{setEntries}
 use Rattle.model.specs.Change.{enterMessage, logicalCheckpoint, close, recordSent, plainChannels, endRound}
-use Rattle.model.specs.Receive.{Reaction, logsOnly, reactionTo, anyFull}
+use Rattle.model.specs.Receive.{Reaction, anyFull}
 use Rattle.model.specs.Step.{roomChecks, logChecks, quietly, reaction, firstReaction, react, receive}
 use Rattle.model.specs.Step.{afterPhysical}
 use Rattle.model.specs.Step.{effect, step, answer}
@@ -42,6 +42,7 @@ use Rattle.model.proofs.laws.Functions.{upd-all, upd-other}
 use Rattle.model.proofs.laws.Lists.{tabulate-length, all-at, or-else-none}
 use Rattle.model.proofs.laws.ChannelLaws.{bodies-length}
 use Rattle.model.proofs.laws.TopologyLaws.{accepted-sizes}
+use Rattle.model.proofs.laws.ReceiveLaws.{Unlike, Apart, reaction-apart}
 use Rattle.model.proofs.laws.SoundLaws.{Fits, Sound, sound-facts, facts-sound, entries-fit}
 use Rattle.model.proofs.laws.Passing.{passed}
 use Rattle.model.proofs.laws.Calls.{Accepted, Stepped, stopped, passes, step-cases, Powered, lost, lasts}
@@ -86,15 +87,6 @@ raised-fits T (channelLog c) n l h (messageLog q) k = h (messageLog q) k
 raised-fits T (channelLog c) n l h (channelLog d) k =
     upd-all (λ m. m ≤ places (channelLog d)) (T .channels) (n .channels) c _ (omega arith) (λ j. h (channelLog j)) d k
 
--- logs of which none comes twice
-abbrev Unlike : Log → List Log → Type 0
-Unlike log [] = Unit {0}
-Unlike log (other ∷ logs) = (log ≡ other → ⊥) × Unlike log logs
-
-abbrev Apart : List Log → Type 0
-Apart [] = Unit {0}
-Apart (log ∷ logs) = Unlike log logs × Apart logs
-
 -- the count of another log stays
 raised-other : (log other : Log) (n : LogCounts) → (log ≡ other → ⊥) → countOf (raised log n) other ≡ countOf n other
 unfolding raised
@@ -117,17 +109,6 @@ all-raised-fits T (log ∷ logs) n a f h =
     all-raised-fits T logs (raised log n) (a .1)
     (full-other log logs n (a .0) ∙ or-right (leb (places log) (countOf n log)) _ f)
     (raised-fits T log n (leb-false _ _ (or-left (leb (places log) (countOf n log)) _ f)) h)
-
-reaction-apart : (phase : Phase) (c r : ℕ) (logical tag : Bool) (e : Entry)
-    → Apart (reactionTo phase c r logical tag e .logs)
-unfolding reactionTo logsOnly
-reaction-apart Idle c r logical tag e = tt
-reaction-apart (Physical next) c r logical tag (Message b t) = either Apart (ltb r next) _ _ (tt, tt) tt
-reaction-apart (Physical next) c r logical tag Marker = tt
-reaction-apart Logical c r true tag (Message b t) = either Apart (Bool·beq t tag) _ _ tt (tt, tt)
-reaction-apart Logical c r false tag (Message b t) =
-    either (λ (x : Reaction). Apart (x .logs)) (Bool·beq t tag) _ _ (tt, tt) tt
-reaction-apart Logical c r logical tag Marker = tt
 
 -- the receiver, the channel and the logs' counts as a reaction has them
 react-sound : (x : Reaction) (c r : ℕ) (s : GlobalState) → Apart (x .logs) → anyFull (s .counts) (x .logs) ≡ false

@@ -2,19 +2,16 @@
 -- accepted, so what it writes of is planned, and stands in one of the two slots or in the line cell.
 use Prim.Native.Nat.{ℕ, _<_, _≤_}
 use mathlib.Core.Path.{_≡_, refl}
-use mathlib.Core.Bool.{Bool, true, false, Bool·beq}
+use mathlib.Core.Bool.{false}
 use mathlib.Core.List.{List, [], _∷_, _++_}
 use mathlib.Core.Option.{Option, none, some}
 use lib.ListN.{length, take, replicate, length-replicate}
-use lib.Dec.{leb, ltb}
+use lib.Dec.{leb}
 use borrow.Author.Tests.{leb-false}
 use native.Mathlib.Omega.{arith}
 use Rattle.model.specs.declared.Topology.{Topology}
-use Rattle.model.specs.declared.Phase.{Phase}
-use Rattle.model.specs.declared.Phase.the-variants.{Idle, Physical, Logical}
 use Rattle.model.specs.declared.Receipt.{Receipt}
 use Rattle.model.specs.declared.Entry.{Entry}
-use Rattle.model.specs.declared.Entry.the-variants.{Message, Marker}
 use Rattle.model.specs.declared.Step.{Step}
 use Rattle.model.specs.declared.Step.the-variants.{Send, Receive, Begin, PhysicalCheckpoint}
 use Rattle.model.specs.declared.Step.the-variants.{LogicalCheckpoint, SendMarker, Commit, Abort}
@@ -26,12 +23,13 @@ use Rattle.model.specs.Layout.{countCell}
 use Rattle.model.specs.State.{GlobalState, LogCounts, countOf}
 use Rattle.model.specs.Write.{Write, writeAll, underBudget, clearWrites, physicalWrites, logWrites, logsWrites}
 use Rattle.model.specs.Write.{commitWrites}
-use Rattle.model.specs.Receive.{Reaction, logsOnly, reactionTo, anyFull}
+use Rattle.model.specs.Receive.{anyFull}
 use Rattle.model.specs.Start.{startupOr, initializeRefusal, initialize, initializeWrites}
 use Rattle.model.specs.Step.{logChecks, nextLine, quietly, reaction, firstReaction, receive, effect, step, answer}
 use Rattle.model.specs.Untouched.{InStore, Untouched}
 use Rattle.model.specs.Form as form
-use Rattle.model.proofs.laws.Tests.{either, or-left, or-right}
+use Rattle.model.proofs.laws.Tests.{or-left, or-right}
+use Rattle.model.proofs.laws.ReceiveLaws.{EachLog, reaction-logs}
 use Rattle.model.proofs.laws.TopologyLaws.{Planned, receiver-planned}
 use Rattle.model.proofs.laws.SoundLaws.{sound-facts}
 use Rattle.model.proofs.laws.Calls.{Accepted, Stepped, stopped, passes, step-cases}
@@ -63,22 +61,6 @@ some-store = replicate storeCells 0
 
 sized : (T : Topology) → topologyRefusal T ≡ none → Sized present T some-store
 sized T e = sized-topology present T some-store e (omega (arith, length-replicate {A = ℕ} storeCells 0))
-
--- each log that an entry needs is its receiver's message log or its channel's log
-abbrev EachLog : (Log → Type 0) → List Log → Type 0
-EachLog P [] = Unit {0}
-EachLog P (log ∷ logs) = P log × EachLog P logs
-
-reaction-logs : (P : Log → Type 0) (ph : Phase) (c r : ℕ) (logical tag : Bool) (e : Entry) → P (messageLog r)
-    → P (channelLog c) → EachLog P (reactionTo ph c r logical tag e .logs)
-unfolding reactionTo logsOnly
-reaction-logs P Idle c r logical tag e m k = tt
-reaction-logs P (Physical next) c r logical tag (Message b t) m k = either (EachLog P) (ltb r next) _ _ (m, tt) tt
-reaction-logs P (Physical next) c r logical tag Marker m k = tt
-reaction-logs P Logical c r true tag (Message b t) m k = either (EachLog P) (Bool·beq t tag) _ _ tt (k, tt)
-reaction-logs P Logical c r false tag (Message b t) m k =
-    either (λ (x : Reaction). EachLog P (x .logs)) (Bool·beq t tag) _ _ (m, tt) tt
-reaction-logs P Logical c r logical tag Marker m k = tt
 
 -- a receipt into planned logs that have room
 logs-below : (T : Topology) → topologyRefusal T ≡ none → (n : ℕ) (counts : LogCounts) (logs : List Log) (r : Receipt)

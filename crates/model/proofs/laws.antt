@@ -8,6 +8,7 @@ pub mod Calls
 pub mod CallLists
 pub mod TopologyLaws
 pub mod WordLaws
+pub mod ReceiveLaws
 pub mod SoundLaws
 pub mod HistoryLaws
 pub mod RecordLaws
