@@ -12,6 +12,7 @@ pub mod MarkerKept
 pub mod AbortKept
 pub mod Frames
 pub mod BeginKept
+pub mod NextPhase
 pub mod PhysicalKept
 pub mod CommitKept
 pub mod ReceiveHistory

@@ -5,14 +5,14 @@ use mathlib.Core.Path.{_≡_, refl, sym, subst, _∙_}
 use mathlib.Core.List.{List, map}
 use lib.ListN.{length, take}
 use lib.Seq.{take-length}
-use Rattle.model.specs.Layout.{present, cell, lineCell, messageLog, channelLog, countCell, bodyIn}
+use Rattle.model.specs.Layout.{present, cell, lineCell, messageLog, channelLog, countCell, receiptIn}
+use Rattle.model.specs.Layout.{bodyIn}
 use Rattle.model.specs.State.{GlobalState}
 use Rattle.model.specs.Write.{Write, writeAll}
 use Rattle.model.specs.History.{History}
 use Rattle.model.specs.Form as form
-use Rattle.model.specs.Recover as recovery
 use Rattle.model.proofs.store.Sizes.{Sized, sized-after}
-use Rattle.model.proofs.store.Slots.{SameLog, SameProcess, InSlot, restored-same, spared-log, spared-process}
+use Rattle.model.proofs.store.Slots.{SameLog, SameProcess, InSlot, spared-log, spared-process}
 use Rattle.model.proofs.store.Slots.{spared-line}
 use Rattle.model.proofs.line.Values.{slotOf, slotBy, heldOf, heldBy}
 use Rattle.model.proofs.line.Invariant.{Inv}
@@ -20,8 +20,9 @@ use Rattle.model.proofs.line.Invariant.{Inv}
 -- a slot with the same process and the same log, read with k entries
 module _ {st st′ : List ℕ} (n p k : ℕ) where
   pub slot-same : SameProcess n p k st st′ → slotBy st′ n k p ≡ slotBy st n k p
-  unfolding slotBy
-  slot-same e = λ i. record { word = restored-same n p k e i; count = e .log .count i }
+  unfolding slotBy form.receiptsBy
+  slot-same e =
+      λ i. record { copy = e .physical i; receipts = map receiptIn (e .log .entries i); count = e .log .count i }
 
   pub held-same : SameLog n (channelLog p) k st st′ → heldBy st′ n k p ≡ heldBy st n k p
   unfolding heldBy form.bodiesBy
@@ -30,7 +31,7 @@ module _ {st st′ : List ℕ} (n p k : ℕ) where
 -- reading with the store's own count is reading with that many
 module _ (st : List ℕ) (n p k : ℕ) where
   pub slot-by : k ≡ cell st (countCell n (messageLog p)) → slotOf st n p ≡ slotBy st n k p
-  unfolding slotOf slotBy recovery.restored
+  unfolding slotOf
   slot-by e = rw e
 
   pub held-by : k ≡ cell st (countCell n (channelLog p)) → heldOf st n p ≡ heldBy st n k p
@@ -58,7 +59,7 @@ pub record Spared (s : GlobalState) (st st′ : List ℕ) : Type 0 where
 module _ {s : GlobalState} {st : List ℕ} {h : History} (i : Inv s st h) where
   module _ (ws : List Write) (into : InSlot (s .round .line + 1) ws) where
     pub spared : (b : ℕ) → Spared s st (writeAll st (take b ws))
-    unfolding slotOf heldOf
+    unfolding slotOf slotBy heldOf
     spared b =
         record {
           sized = sized-after (i .sized) (take b ws);

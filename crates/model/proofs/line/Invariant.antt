@@ -11,6 +11,7 @@ use Rattle.model.specs.declared.Topology.{Topology}
 use Rattle.model.specs.declared.Phase.{Phase}
 use Rattle.model.specs.declared.Phase.the-variants.{Idle, Physical, Logical}
 use Rattle.model.specs.declared.Step.{Step}
+use Rattle.model.specs.Word.{replay}
 use Rattle.model.specs.Topology.{sender, receiver}
 use Rattle.model.specs.Channel.{bodies, messages}
 use Rattle.model.specs.Layout.{present, cell, lineCell, messagePlaces, channelPlaces}
@@ -37,7 +38,7 @@ pub record Unmarked (t : Bool) (v : Process) : Type 0 where
 -- The physical phase: a process below next is saved as it stands now, and the message log of any other is empty.
 pub record PhysicalProcess (t : Bool) (next p : ℕ) (v : Process) : Type 0 where
   pub plain : Unmarked t v
-  pub saved : p < next → v .pending .word ≡ v .word
+  pub saved : p < next → replay (v .pending .copy) (v .pending .receipts) ≡ v .word
   pub waiting : next ≤ p → v .count ≡ 0
   pub counted : v .count ≡ v .pending .count
 
@@ -45,7 +46,8 @@ pub record PhysicalProcess (t : Bool) (next p : ℕ) (v : Process) : Type 0 wher
 pub record LogicalProcess (t : Bool) (v : Process) : Type 0 where
   pub tag : v .tag ≡ tagged t (v .logical)
   pub mark : Marked (length (v .book .events)) (v .logical) (v .book .mark)
-  pub saved : v .pending .word ≡ wordOf (before (v .book .mark) (v .book .events))
+  pub saved : replay (v .pending .copy) (v .pending .receipts)
+      ≡ wordOf (before (v .book .mark) (v .book .events))
   pub counted : v .count ≡ v .pending .count
 
 abbrev pub ProcessIn : Bool → Phase → ℕ → Process → Type 0
@@ -58,7 +60,8 @@ pub record ProcessHolds (t : Bool) (phase : Phase) (p : ℕ) (v : Process) : Typ
   pub now : v .word ≡ wordOf (v .book .events)
   -- the finished slot has its word at the line
   pub within : v .book .place ≤ length (v .book .events)
-  pub finished : v .finished .word ≡ wordOf (take (v .book .place) (v .book .events))
+  pub finished : replay (v .finished .copy) (v .finished .receipts)
+      ≡ wordOf (take (v .book .place) (v .book .events))
   pub fits : v .finished .count ≤ messagePlaces
   pub round : ProcessIn t phase p v
 

@@ -6,18 +6,15 @@ use mathlib.Core.List.{List, [], _∷_, map-append}
 use lib.ListN.{length, take}
 use native.Mathlib.Omega.{arith}
 use Rattle.model.specs.declared.Receipt.{Receipt}
-use Rattle.model.specs.Word.{enter}
-use Rattle.model.specs.Layout.{cell, physicalCell, Log, messageLog, channelLog, messagePlaces, channelPlaces}
-use Rattle.model.specs.Layout.{present, places, entriesBy, entryFor, receiptIn, bodyIn, receiptsBy}
+use Rattle.model.specs.Layout.{Log, messageLog, channelLog, messagePlaces, channelPlaces}
+use Rattle.model.specs.Layout.{present, places, entriesBy, entryFor, receiptIn, bodyIn}
 use Rattle.model.specs.State.{GlobalState, countOf}
 use Rattle.model.specs.Write.{Write, writeAll, logWrites}
 use Rattle.model.specs.History.{History}
 use Rattle.model.specs.Form as form
-use Rattle.model.specs.Recover as recovery
 use Rattle.model.proofs.laws.Functions.{Indices, same, other, indices}
 use Rattle.model.proofs.laws.TopologyLaws.{Planned}
 use Rattle.model.proofs.laws.SoundLaws.{Fits}
-use Rattle.model.proofs.laws.WordLaws.{replay-snoc}
 use Rattle.model.proofs.store.Writes.{each-take}
 use Rattle.model.proofs.store.Addresses.{Of}
 use Rattle.model.proofs.store.Slots.{IntoLog, log-into, log-in, log-other, log-physical, log-counted}
@@ -132,7 +129,7 @@ module _ (s : GlobalState) (st : List ℕ) (h : History) (i : Inv s st h) (r : R
       (s .round .line + 1)
       (s .counts .messages q + 1) q
       ≡ loggedSlot r (processAt s st h q)
-  unfolding slotBy recovery.restoredBy form.receiptsBy
+  unfolding slotBy form.receiptsBy
   slot-logged q l room =
       let n : ℕ = s .round .line + 1 in
       let k : ℕ = s .counts .messages q in
@@ -143,7 +140,6 @@ module _ (s : GlobalState) (st : List ℕ) (h : History) (i : Inv s st h) (r : R
         log-appended (s .topology) st (i .sized) n log k r l room,
         kept,
         map-append receiptIn (entriesBy st n log k) (entryFor log r ∷ []),
-        replay-snoc enter (cell st (physicalCell n q)) (receiptsBy st n q k) (receiptIn (entryFor log r)),
       )
 
   pub held-logged : (c : ℕ) → c < s .topology .channels → s .counts .channels c < channelPlaces

@@ -2,12 +2,14 @@
 use Prim.Native.Nat.{ℕ, _+_, _<_, _≤_}
 use mathlib.Core.Path.{_≡_, refl, sym, ap, _∙_}
 use mathlib.Core.Bool.{Bool, true, false, not}
+use mathlib.Core.List.{[], _∷_, _++_}
 use lib.ListN.{length}
 use native.Mathlib.Omega.{arith}
 use Rattle.model.specs.declared.Phase.{Phase}
 use Rattle.model.specs.declared.Phase.the-variants.{Idle, Physical, Logical}
 use Rattle.model.specs.declared.Receipt.{Receipt}
-use Rattle.model.specs.Word.{receipt, enter}
+use Rattle.model.specs.Word.{receipt, enter, replay}
+use Rattle.model.proofs.laws.WordLaws.{replay-snoc}
 use Rattle.model.proofs.laws.HistoryLaws.{wordOf, before, marked, before-end, sentOn, receivedOn}
 use Rattle.model.proofs.laws.HistoryLaws.{word-sent, word-received}
 use Rattle.model.proofs.line.Values.{Book, Slot, Process}
@@ -44,7 +46,8 @@ receiving c b count slot v =
 
 -- the pending slot with one more entry in the message log
 abbrev pub loggedSlot : Receipt → Process → Slot
-loggedSlot r v = record { word = enter (v .pending .word) r; count = v .count + 1 }
+loggedSlot r v =
+    record { copy = v .pending .copy; receipts = v .pending .receipts ++ (r ∷ []); count = v .count + 1 }
 
 -- after the logical checkpoint: the mark is the end of the history
 abbrev pub atLogical : Process → Process
@@ -135,7 +138,9 @@ module _ {t : Bool} {p : ℕ} {v : Process} where
       process-received (Physical next) c b _ _ i
       (record {
         plain = record { tag = i .round .plain .tag; mark = i .round .plain .mark };
-        saved = λ k. ap (λ (w : ℕ). enter w (receipt c b)) (i .round .saved k);
+        saved = λ k.
+            replay-snoc enter (v .pending .copy) (v .pending .receipts) (receipt c b)
+            ∙ ap (λ (w : ℕ). enter w (receipt c b)) (i .round .saved k);
         waiting = λ k. absurd (omega arith);
         counted = refl;
       })
@@ -146,12 +151,16 @@ module _ {t : Bool} {p : ℕ} {v : Process} where
   unfolding before
   received-before c b e i =
       let none-yet = no-mark (i .round .mark) e in
-      let as-now : v .pending .word ≡ wordOf (v .book .events) = rw none-yet at (i .round .saved) in
+      let as-now : replay (v .pending .copy) (v .pending .receipts) ≡ wordOf (v .book .events) =
+      rw none-yet at (i .round .saved) in
       process-received Logical c b _ _ i
       (record {
         tag = i .round .tag;
         mark = marked-longer _ (one-longer (v .book .events) (receivedOn c b)) (i .round .mark);
-        saved = ap (λ (w : ℕ). enter w (receipt c b)) as-now ∙ rw none-yet (sym (word-received (v .book .events) c b));
+        saved =
+            replay-snoc enter (v .pending .copy) (v .pending .receipts) (receipt c b)
+            ∙ ap (λ (w : ℕ). enter w (receipt c b)) as-now
+            ∙ rw none-yet (sym (word-received (v .book .events) c b));
         counted = refl;
       })
 

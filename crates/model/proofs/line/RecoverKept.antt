@@ -13,7 +13,7 @@ use native.Mathlib.Nat.{le-refl}
 use Rattle.model.specs.declared.Topology.{Topology}
 use Rattle.model.specs.Notation.{tabulate}
 use Rattle.model.specs.Check.{firstRefusal}
-use Rattle.model.specs.Word.{replayBy}
+use Rattle.model.specs.Word.{replayBy, replay}
 use Rattle.model.specs.Topology.{sender, receiver, hasProcess, hasChannel, topologyRefusal}
 use Rattle.model.specs.Channel.{bodies, messages, markerless}
 use Rattle.model.specs.Layout.{present, storeCells, messageLog, channelLog, entriesFrom}
@@ -35,7 +35,7 @@ use Rattle.model.proofs.laws.ChannelLaws.{bodies-messages, messages-mar
 use Rattle.model.proofs.laws.HistoryLaws.{wordOf}
 use Rattle.model.proofs.store.Sizes.{admitted, sized-start, sized-after}
 use Rattle.model.proofs.store.Slots.{Initialized, initialized}
-use Rattle.model.proofs.line.Values.{slotOf, heldOf, bookOf, seenOf}
+use Rattle.model.proofs.line.Values.{slotOf, slotBy, heldOf, bookOf, seenOf}
 use Rattle.model.proofs.line.Invariant.{Inv}
 
 -- a history as a recover leaves it
@@ -55,7 +55,7 @@ module _ (s : GlobalState) (st : List ℕ) (h : History) (good : topologyRefusal
     line-is = i .stored
 
     counts-fit : countsFit T st ≡ true
-    unfolding recovery.countsFit recovery.countFits slotOf heldOf
+    unfolding recovery.countsFit recovery.countFits slotOf slotBy heldOf
     counts-fit =
         rw line-is
         (and-both _ _ (all-of (T .processes) _ (λ p l. le-leb _ _ (i .processes p l .fits)))
@@ -73,7 +73,7 @@ module _ (s : GlobalState) (st : List ℕ) (h : History) (good : topologyRefusal
     recover-is = rw (not-refused, line-is)
 
     word-is : (p : ℕ) → p < T .processes → recoveredWord T st p ≡ wordOf (shortened h p)
-    unfolding recovery.recoveredWord hasProcess slotOf bookOf
+    unfolding recovery.recoveredWord recovery.restored recovery.restoredBy hasProcess slotOf slotBy bookOf
     word-is p l = rw (lt-ltb p (T .processes) l, line-is) (i .processes p l .finished)
 
     channel-is : (c : ℕ) → c < T .channels → recoveredChannel T st c ≡ messages false (logged st k c)
@@ -170,8 +170,8 @@ module _ (T : Topology) (store : List ℕ) (accepted : initialize T store .refus
   blank : Initialized T after
   blank = initialized T store (sized-start present T store no-refusal)
 
-  blank-word : (p : ℕ) → p < T .processes → slotOf after 0 p .word ≡ 0
-  unfolding slotOf recovery.restored recovery.restoredBy form.receiptsBy form.entriesBy entriesFrom tabulate replayBy
+  blank-word : (p : ℕ) → p < T .processes → replay (slotOf after 0 p .copy) (slotOf after 0 p .receipts) ≡ 0
+  unfolding slotOf slotBy form.receiptsBy form.entriesBy entriesFrom tabulate replayBy
   blank-word p l = rw (blank .counts (messageLog p) l) (blank .physical p l)
 
   blank-log : (c : ℕ) → c < T .channels → heldOf after 0 c .bodies ≡ []
@@ -179,7 +179,7 @@ module _ (T : Topology) (store : List ℕ) (accepted : initialize T store .refus
   blank-log c l = rw (blank .counts (channelLog c) l)
 
   pub initialize-holds : Inv (initialize T store .state) (initialize T store .store) newHistory
-  unfolding idleState newHistory bookOf seenOf slotOf heldOf wordOf receiptsOf replayBy bodiesOn bodies messages
+  unfolding idleState newHistory bookOf seenOf slotOf slotBy heldOf wordOf receiptsOf replayBy bodiesOn bodies messages
   initialize-holds =
       subst (λ (r : Startup). Inv (r .state) (r .store) newHistory) (sym initialize-is)
       (record {

@@ -5,10 +5,11 @@ use mathlib.Core.List.{List}
 use mathlib.Core.Option.{Option}
 use lib.ListN.{take}
 use Rattle.model.specs.declared.Entry.{Entry}
+use Rattle.model.specs.declared.Receipt.{Receipt}
 use Rattle.model.specs.Topology.{sender, receiver}
-use Rattle.model.specs.Layout.{cell, messageLog, channelLog, countCell, bodiesBy, logged}
+use Rattle.model.specs.Layout.{cell, physicalCell, messageLog, channelLog, countCell, receiptsBy, bodiesBy}
+use Rattle.model.specs.Layout.{logged}
 use Rattle.model.specs.State.{GlobalState}
-use Rattle.model.specs.Start.{restored, restoredBy}
 use Rattle.model.specs.History.{Event, History, Direction, sent, received, bodiesOn}
 use Rattle.model.proofs.laws.HistoryLaws.{before}
 
@@ -18,9 +19,11 @@ pub record Book : Type 0 where
   pub place : ℕ
   pub mark : Option ℕ
 
--- what a slot makes of a process, and how many entries it says that the process's message log has
+-- what a slot holds of a process: its physical checkpoint, the receipts of its message log, and how many it says that
+-- they are
 pub record Slot : Type 0 where
-  pub word : ℕ
+  pub copy : ℕ
+  pub receipts : List Receipt
   pub count : ℕ
 
 -- A process: its word, tag and progress, how many entries its message log has by the state, its book, and the two
@@ -71,12 +74,17 @@ seenOf d c k =
       mark = bodiesOn d c (before (k .mark) (k .events));
     }
 
--- the slot for line n: by its own counts, and by the count k
-unfoldable pub slotOf : List ℕ → ℕ → ℕ → Slot
-slotOf st n p = record { word = restored st n p; count = cell st (countCell n (messageLog p)) }
-
+-- the slot for line n: by the count k, and by its own counts
 unfoldable pub slotBy : List ℕ → ℕ → ℕ → ℕ → Slot
-slotBy st n k p = record { word = restoredBy st n p k; count = cell st (countCell n (messageLog p)) }
+slotBy st n k p =
+    record {
+      copy = cell st (physicalCell n p);
+      receipts = receiptsBy st n p k;
+      count = cell st (countCell n (messageLog p));
+    }
+
+unfoldable pub slotOf : List ℕ → ℕ → ℕ → Slot
+slotOf st n p = slotBy st n (cell st (countCell n (messageLog p))) p
 
 unfoldable pub heldOf : List ℕ → ℕ → ℕ → Held
 heldOf st n c = record { bodies = logged st n c; count = cell st (countCell n (channelLog c)) }

@@ -11,9 +11,8 @@ use Rattle.model.specs.Layout.{cell, lineCell, physicalCell, Log, messag
 use Rattle.model.specs.Layout.{present, countCell, entryCell, entriesFrom, entriesBy, entryFor}
 use Rattle.model.specs.Write.{Write, writeAll, clearWrites, physicalWrites, cellWrites, appendWrites, logWrites}
 use Rattle.model.specs.Write.{commitWrites}
-use Rattle.model.specs.Start.{initializeWrites, restoredBy}
+use Rattle.model.specs.Start.{initializeWrites}
 use Rattle.model.specs.Form as form
-use Rattle.model.specs.Recover as recovery
 use Rattle.model.proofs.laws.TopologyLaws.{Planned}
 use Rattle.model.proofs.store.Writes.{Each, each-take, each-append, each-map, written, kept, zeroInto, zeroed}
 use Rattle.model.proofs.store.Entries.{entry-ends, Between, entries-same, cells-into, append-counts, appends}
@@ -33,11 +32,6 @@ pub record SameLog (n : ℕ) (log : Log) (k : ℕ) (st st′ : List ℕ) : Type 
 pub record SameProcess (n p k : ℕ) (st st′ : List ℕ) : Type 0 where
   pub physical : cell st′ (physicalCell n p) ≡ cell st (physicalCell n p)
   pub log : SameLog n (messageLog p) k st st′
-
-pub restored-same : (n p k : ℕ) {st st′ : List ℕ} → SameProcess n p k st st′
-    → restoredBy st′ n p k ≡ restoredBy st n p k
-unfolding recovery.restoredBy form.receiptsBy
-restored-same n p k e = rw (e .physical, e .log .entries)
 
 -- where the cells that are read of a log with k entries are kept, the log is the same
 pub kept-log : (st st′ : List ℕ) (n : ℕ) (log : Log) (k : ℕ)
