@@ -1,6 +1,7 @@
 -- Why every step keeps the invariant, process part and channel part apart.
 pub mod Values
 pub mod ChannelState
+pub mod Counted
 pub mod Invariant
 pub mod Books
 pub mod ProcessState

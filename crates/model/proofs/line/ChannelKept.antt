@@ -16,6 +16,7 @@ use Rattle.model.proofs.laws.HistoryLaws.{before, sees, sentOn, sent-on
 use Rattle.model.proofs.line.Values.{Seen, Held, Process, Channel, seenOf}
 use Rattle.model.proofs.line.ChannelState.{Balanced, send-old, send-new, receive-old-before, receive-old-logged}
 use Rattle.model.proofs.line.ChannelState.{receive-new}
+use Rattle.model.proofs.line.Counted.{Counted, exact, counted-longer, counted-before, counted-new}
 use Rattle.model.proofs.line.Invariant.{tagged, Plain, LogicalChannel, ProcessHolds, ChannelIn}
 use Rattle.model.proofs.line.Invariant.{ChannelHolds}
 use Rattle.model.proofs.line.Books.{longer, whole, no-mark, before-longer, line-longer}
@@ -97,13 +98,19 @@ module _ (t : Bool) (p : ℕ) (x : Process) (v : Channel) where
             let old : x .tag ≡ t = tag-is Logical a ∙ ap (tagged t) e in
             let grown : out′ .mark ≡ v .out .mark ++ (b ∷ []) =
             rw (is, no-mark (a .round .mark) e) (sees sent c (x .book .events) (sentOn c b) (sent-on c b)) in
-            record { balanced = rw (old, grown) (send-old b (flag ∙ e) (r .balanced)); counted = r .counted }
+            record {
+              balanced = rw (old, grown) (send-old b (flag ∙ e) (r .balanced));
+              counted = counted-longer _ (r .counted);
+            }
         logical a r (holds e) =
             let new : x .tag ≡ not t = tag-is Logical a ∙ ap (tagged t) e in
             let same : out′ .mark ≡ v .out .mark =
             ap (bodiesOn sent c) (before-longer (x .book .events) (sentOn c b) refl (a .round .mark) e)
             ∙ ap (λ (o : Seen). o .mark) (sym is) in
-            record { balanced = rw (new, same) (send-new b (flag ∙ e) (r .balanced)); counted = r .counted }
+            record {
+              balanced = rw (new, same) (send-new b (flag ∙ e) (r .balanced));
+              counted = counted-longer _ (r .counted);
+            }
 
         round : (ph : Phase) → ProcessHolds t ph p x → x .tag ≡ tagIn t ph (x .logical) → ChannelIn t ph v
             → ChannelIn t ph (sending entries′ out′ v)
@@ -161,6 +168,9 @@ module _ (t : Bool) (p : ℕ) (x : Process) (v : Channel) where
           (v .out .mark) (v .arrived .mark)
       balanced = rw (← first) (i .round .balanced)
 
+      counted : Counted t (v .receiver) (Message b u ∷ es) (v .count) (v .pending .count)
+      counted = rw (← first) (i .round .counted)
+
       -- what stood before the mark stands before it
       same-mark : x .logical ≡ true → arrived′ .mark ≡ v .arrived .mark
       unfolding seenOf
@@ -175,7 +185,10 @@ module _ (t : Bool) (p : ℕ) (x : Process) (v : Channel) where
           let grown : arrived′ .mark ≡ v .arrived .mark ++ (b ∷ []) =
           rw (is, no-mark (a .round .mark) e) (sees received c (x .book .events) (receivedOn c b) (received-on c b)) in
           channel-received Logical (v .count) (v .pending) a i
-          (record { balanced = rw grown (receive-old-before balanced old (flag ∙ e)); counted = i .round .counted })
+          (record {
+            balanced = rw grown (receive-old-before balanced old (flag ∙ e));
+            counted = exact (counted-before (flag ∙ e) (i .round .counted));
+          })
 
       pub left-new : x .logical ≡ true → u ≡ not t
           → ChannelHolds t Logical (leaving es arrived′ (v .count) (v .pending) v)
@@ -183,11 +196,11 @@ module _ (t : Bool) (p : ℕ) (x : Process) (v : Channel) where
           channel-received Logical (v .count) (v .pending) a i
           (record {
             balanced = rw (same-mark e, flag ∙ e) (receive-new balanced new);
-            counted = i .round .counted;
+            counted = exact (counted-new new counted);
           })
 
       pub left-logged : x .logical ≡ true → u ≡ t
           → ChannelHolds t Logical (leaving es arrived′ (v .count + 1) (loggedHeld b v) v)
       left-logged e old =
           channel-received Logical (v .count + 1) (loggedHeld b v) a i
-          (record { balanced = rw (same-mark e) (receive-old-logged balanced old (flag ∙ e)); counted = refl })
+          (record { balanced = rw (same-mark e) (receive-old-logged balanced old (flag ∙ e)); counted = exact refl })

@@ -23,6 +23,7 @@ use Rattle.model.proofs.laws.HistoryLaws.{wordOf, before, Marked, unmar
 use Rattle.model.proofs.store.Sizes.{sized-after}
 use Rattle.model.proofs.store.Slots.{committed, committed-log, committed-process}
 use Rattle.model.proofs.line.ChannelState.{closed-channel}
+use Rattle.model.proofs.line.Counted.{counted-closed}
 use Rattle.model.proofs.line.Values.{slotOf, slotBy, heldOf, heldBy, bookOf, seenOf, channelAt}
 use Rattle.model.proofs.line.Invariant.{tagged, EndsPlanned, Inv, Keeps, KeepsBy, KeepsLostBy}
 use Rattle.model.proofs.line.Frames.{slot-same, held-same, slot-by, held-by}
@@ -59,11 +60,17 @@ module _ (s : GlobalState) (st : List ℕ) (h : History) (ends : EndsPlanned (s 
       slot-by after n p (s .counts .messages p) (process-in i phase p l .round .counted ∙ sym (same .log .count))
       ∙ slot-same n p (s .counts .messages p) same
 
+  -- every channel is closed
+  same-count : (c : ℕ) → c < s .topology .channels
+      → channelAt s st h c .count ≡ channelAt s st h c .pending .count
+  same-count c l =
+      let v = channel-in i phase c l .round in counted-closed (may .channels c l) (v .balanced) (v .counted)
+
   held-committed : (c : ℕ) → c < s .topology .channels → heldOf after n c ≡ heldBy st n (s .counts .channels c) c
   unfolding heldBy
   held-committed c l =
       let same = committed-log (s .topology) st (i .sized) n n (channelLog c) l _ (fits (channelLog c) l) in
-      held-by after n c (s .counts .channels c) (channel-in i phase c l .round .counted ∙ sym (same .count))
+      held-by after n c (s .counts .channels c) (same-count c l ∙ sym (same .count))
       ∙ held-same n c (s .counts .channels c) same
 
   -- what stood before the marks stands up to the line
@@ -104,7 +111,7 @@ module _ (s : GlobalState) (st : List ℕ) (h : History) (ends : EndsPlanned (s 
                   sym (seen-line sent c _ (ends c l .0)) ∙ balance
                   ∙ ap (λ (x : List ℕ). x ++ channelAt s st h c .pending .bodies)
                   (seen-line received c _ (ends c l .1));
-              fits = rw (← v .round .counted) (fits (channelLog c) l);
+              fits = rw (← same-count c l) (fits (channelLog c) l);
               round = plain;
             });
       }

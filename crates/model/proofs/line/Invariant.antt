@@ -24,6 +24,7 @@ use Rattle.model.proofs.laws.HistoryLaws.{wordOf, before, Marked}
 use Rattle.model.proofs.store.Sizes.{Sized}
 use Rattle.model.proofs.line.Values.{Process, Channel, processAt, channelAt}
 use Rattle.model.proofs.line.ChannelState.{Balanced}
+use Rattle.model.proofs.line.Counted.{Counted}
 
 -- the tag of a process, by whether it has its logical checkpoint; t is the tag before the round's logical checkpoints
 unfoldable pub tagged : Bool → Bool → Bool
@@ -79,7 +80,7 @@ pub record PhysicalChannel (t : Bool) (v : Channel) : Type 0 where
 pub record LogicalChannel (t : Bool) (v : Channel) : Type 0 where
   pub balanced : Balanced t (v .sender) (v .receiver) (v .sent) (v .closed) (v .entries) (v .pending .bodies)
       (v .out .mark) (v .arrived .mark)
-  pub counted : v .count ≡ v .pending .count
+  pub counted : Counted t (v .receiver) (v .entries) (v .count) (v .pending .count)
 
 abbrev pub ChannelIn : Bool → Phase → Channel → Type 0
 ChannelIn t Idle v = Plain t v

@@ -14,6 +14,7 @@ use Rattle.model.proofs.laws.Tests.{true-is-not-false}
 use Rattle.model.proofs.laws.Functions.{Indices, same, other, indices, by-index, upd-same, upd-at, upd-other}
 use Rattle.model.proofs.line.Values.{Channel, processAt, channelAt}
 use Rattle.model.proofs.line.ChannelState.{more-logical}
+use Rattle.model.proofs.line.Counted.{counted-logical}
 use Rattle.model.proofs.line.Invariant.{ProcessHolds, ChannelHolds, Inv}
 use Rattle.model.proofs.line.Books.{no-mark, book-marked, book-marked-other, seen-marked-in}
 use Rattle.model.proofs.line.ProcessState.{process-logical}
@@ -51,7 +52,11 @@ channel-flagged a r fa fr i =
       now = i .now;
       finished = i .finished;
       fits = i .fits;
-      round = record { balanced = more-logical a r fa fr (i .round .balanced); counted = i .round .counted };
+      round =
+          record {
+            balanced = more-logical a r fa fr (i .round .balanced);
+            counted = counted-logical r fr (i .round .counted);
+          };
     }
 
 module _ (s : GlobalState) (st : List ℕ) (h : History) (p : ℕ) (l : p < s .topology .processes)

@@ -19,6 +19,7 @@ use Rattle.model.proofs.laws.ChannelLaws.{bodies-append}
 use Rattle.model.proofs.laws.Passing.{MaySendMarker}
 use Rattle.model.proofs.line.Values.{Channel, channelAt}
 use Rattle.model.proofs.line.ChannelState.{send-marker}
+use Rattle.model.proofs.line.Counted.{counted-longer}
 use Rattle.model.proofs.line.Invariant.{ChannelHolds, Inv, KeepsBy}
 use Rattle.model.proofs.line.Phases.{is-logical, channel-in}
 
@@ -48,7 +49,8 @@ channel-marked {v = v} a z i =
           ∙ ap (λ (l : List ℕ). v .arrived .all ++ l) (sym (bodies-append (v .entries) (Marker ∷ []) ∙ append-nil _));
       finished = i .finished;
       fits = i .fits;
-      round = record { balanced = send-marker a z (i .round .balanced); counted = i .round .counted };
+      round =
+          record { balanced = send-marker a z (i .round .balanced); counted = counted-longer _ (i .round .counted) };
     }
 
 module _ (s : GlobalState) (st : List ℕ) (h : History) (c : ℕ) (may : MaySendMarker s c) (i : Inv s st h) where

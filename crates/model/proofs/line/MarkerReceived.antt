@@ -16,6 +16,7 @@ use Rattle.model.proofs.laws.Tests.{true-is-not-false}
 use Rattle.model.proofs.laws.Functions.{by-index, upd-same, upd-other}
 use Rattle.model.proofs.laws.ChannelLaws.{messages-markerless}
 use Rattle.model.proofs.line.ChannelState.{receive-marker}
+use Rattle.model.proofs.line.Counted.{exact, counted-marker}
 use Rattle.model.proofs.line.Values.{Channel, channelAt}
 use Rattle.model.proofs.line.Invariant.{ChannelHolds, Inv}
 use Rattle.model.proofs.line.Phases.{channel-in}
@@ -50,7 +51,10 @@ channel-shut {v = v} es first r i =
       finished = i .finished;
       fits = i .fits;
       round =
-          record { balanced = rw r (receive-marker (rw first at (i .round .balanced))); counted = i .round .counted };
+          record {
+            balanced = rw r (receive-marker (rw first at (i .round .balanced)));
+            counted = exact (counted-marker (rw first at (i .round .counted)));
+          };
     }
 
 -- the marker, with a receiver that has its logical checkpoint

@@ -19,6 +19,7 @@ use Rattle.model.specs.Form as form
 use Rattle.model.proofs.laws.Tests.{true-is-not-false}
 use Rattle.model.proofs.laws.HistoryLaws.{wordOf, before, unmarked}
 use Rattle.model.proofs.line.ChannelState.{Shape, Balanced, all-old}
+use Rattle.model.proofs.line.Counted.{exact}
 use Rattle.model.proofs.line.Values.{heldBy, bookOf, seenOf}
 use Rattle.model.proofs.line.Invariant.{tagged, EndsPlanned, Inv}
 use Rattle.model.proofs.line.Phases.{process-in, channel-in}
@@ -99,7 +100,7 @@ module _ (s : GlobalState) (st : List ℕ) (h : History) (q : ℕ) (ends : EndsP
                         only-old (v .round .plain) (nothing-logged c l)
                         (sym (all-before sent c _ (ends c l .0)) ∙ v .now
                         ∙ ap (λ (x : List ℕ). x ++ bodies (s .channel c)) (all-before received c _ (ends c l .1)));
-                    counted = v .round .counted;
+                    counted = exact (v .round .counted);
                   };
             };
       }
