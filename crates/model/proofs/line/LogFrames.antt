@@ -1,6 +1,6 @@
 -- A receipt into one log of the pending slot: every other log stays, and the process or the channel whose log it is has
 -- one entry more. Where the power is lost within the writes, nothing shows.
-use Prim.Native.Nat.{ℕ, _+_, _<_}
+use Prim.Native.Nat.{ℕ, _+_, _<_, _≤_}
 use mathlib.Core.Path.{_≡_, refl, sym, ap, subst, _∙_}
 use mathlib.Core.List.{List, [], _∷_, map-append}
 use lib.ListN.{length, take}
@@ -84,11 +84,14 @@ module _ (s : GlobalState) (st : List ℕ) (h : History) (i : Inv s st h) (fits 
               log-other (s .topology) st (i .sized) n log planned ws part (messageLog q) l o _ (fits (messageLog q) l);
         })
 
+    pub held-aside-by : (c k : ℕ) → c < s .topology .channels → k ≤ channelPlaces → (log ≡ channelLog c → ⊥)
+        → heldBy (writeAll st ws) n k c ≡ heldBy st n k c
+    held-aside-by c k l m o =
+        held-same n c k (log-other (s .topology) st (i .sized) n log planned ws part (channelLog c) l o k m)
+
     pub held-aside : (c : ℕ) → c < s .topology .channels → (log ≡ channelLog c → ⊥)
         → heldBy (writeAll st ws) n (s .counts .channels c) c ≡ heldBy st n (s .counts .channels c) c
-    held-aside c l o =
-        held-same n c (s .counts .channels c)
-        (log-other (s .topology) st (i .sized) n log planned ws part (channelLog c) l o _ (fits (channelLog c) l))
+    held-aside c l o = held-aside-by c (s .counts .channels c) l (fits (channelLog c) l) o
 
   -- the power is lost before the log's count is written
   pub log-lost-kept : (x : ℕ) → x < length writes → Inv s (writeAll st (take x writes)) h

@@ -1,6 +1,6 @@
 -- A receive keeps the invariant, whatever the phase and the entry: by the phase, whether the receiver has its logical
 -- checkpoint, and whether the message is old (it has the tag from before the round's logical checkpoints) or new.
-use Prim.Native.Nat.{ℕ, _<_}
+use Prim.Native.Nat.{ℕ, _+_, _<_}
 use mathlib.Core.Path.{_≡_, refl, sym, ap, subst, _∙_}
 use mathlib.Core.Bool.{Bool, true, false, not, Bool·beq, Bool·not-not}
 use mathlib.Core.List.{List, [], _∷_}
@@ -12,16 +12,18 @@ use Rattle.model.specs.declared.Phase.the-variants.{Idle, Physical, Logi
 use Rattle.model.specs.declared.Entry.{Entry}
 use Rattle.model.specs.declared.Entry.the-variants.{Message, Marker}
 use Rattle.model.specs.declared.Step.the-variants.{Receive}
+use Rattle.model.specs.Word.{receipt}
 use Rattle.model.specs.Topology.{receiver}
 use Rattle.model.specs.Channel.{noEntry}
+use Rattle.model.specs.Layout.{Log, messageLog, channelLog}
 use Rattle.model.specs.State.{GlobalState, raisedAll}
 use Rattle.model.specs.Change.{setEntries, withChannel, enterMessage, withWord, withCounts, logicalCheckpoint}
-use Rattle.model.specs.Change.{withTag}
-use Rattle.model.specs.Change.{withProgress, withLogical, withClosed, close}
-use Rattle.model.specs.Write.{writeAll, logsWrites}
+use Rattle.model.specs.Change.{withTag, withProgress, withLogical, withClosed, close}
+use Rattle.model.specs.Write.{writeAll, cellWrites, appendWrites, logWrites, logsWrites}
 use Rattle.model.specs.Receive.{Reaction, logsOnly, reactionTo, anyFull}
 use Rattle.model.specs.Step.{effect, receive, reaction, firstReaction, react, receivedOutcome}
-use Rattle.model.specs.History.{History, markNow, markUnmarked, addEvent, onStep, onAccepted, onReceive}
+use Rattle.model.specs.Step.{nextLine}
+use Rattle.model.specs.History.{History, received, markNow, markUnmarked, addEvent, onStep, onAccepted, onReceive}
 use Rattle.model.specs.History.{onMessage}
 use Rattle.model.proofs.laws.Tests.{true-is-not-false, or-left, Tested, holds, fails, test, beq-same}
 use Rattle.model.proofs.laws.Tests.{beq-other}
@@ -29,19 +31,20 @@ use Rattle.model.proofs.laws.Functions.{upd-same}
 use Rattle.model.proofs.laws.SoundLaws.{Fits}
 use Rattle.model.proofs.laws.HistoryLaws.{receivedOn}
 use Rattle.model.proofs.line.ChannelState.{new-sender}
-use Rattle.model.proofs.line.Values.{processAt, channelAt, bookOf, seenOf}
+use Rattle.model.proofs.line.Values.{Process, Channel, Seen, processAt, channelAt, bookOf, seenOf}
 use Rattle.model.proofs.line.Invariant.{tagged, EndsPlanned, Inv, Keeps}
-use Rattle.model.proofs.line.Books.{no-mark}
-use Rattle.model.proofs.line.ProcessState.{received-idle, received-waiting, received-saved, received-before}
-use Rattle.model.proofs.line.ProcessState.{received-after}
-use Rattle.model.proofs.line.ChannelKept.{left-idle, left-physical, left-before, left-new, left-logged}
+use Rattle.model.proofs.line.Books.{longer, no-mark}
+use Rattle.model.proofs.line.ProcessState.{receiving, loggedSlot, received-idle, received-waiting}
+use Rattle.model.proofs.line.ProcessState.{received-saved, received-before, received-after}
+use Rattle.model.proofs.line.ChannelKept.{leaving, loggedHeld, left-idle, left-physical, left-before, left-new}
+use Rattle.model.proofs.line.ChannelKept.{left-logged}
 use Rattle.model.proofs.line.Phases.{process-in, channel-in}
 use Rattle.model.proofs.line.ReceiveHistory.{on-early, on-late, stays-marked, on-marked, on-unmarked}
-use Rattle.model.proofs.line.ReceiveHistory.{old-is-early}
-use Rattle.model.proofs.line.ReceiveHistory.{new-is-late}
+use Rattle.model.proofs.line.ReceiveHistory.{old-is-early, new-is-late}
 use Rattle.model.proofs.line.LogicalKept.{logical-kept, logical-tag}
-use Rattle.model.proofs.line.MessageKept.{receiveBy, Both, unlogged, message-unlogged, message-logged}
-use Rattle.model.proofs.line.MessageKept.{channel-logged}
+use Rattle.model.proofs.line.LogFrames.{log-lost-kept}
+use Rattle.model.proofs.line.MessageKept.{receiveBy, Both, Receives, Leaves, Logged, LostOn, unlogged}
+use Rattle.model.proofs.line.MessageKept.{message-alone, channel-alone}
 use Rattle.model.proofs.line.MarkerReceived.{no-marker, marker-received}
 
 -- a new message, with a receiver that has its logical checkpoint
@@ -68,6 +71,12 @@ module _ (s : GlobalState) (st : List ℕ) (h : History) (c : ℕ) (l : c < s .t
   abbrev rl : r < s .topology .processes
   rl = ends c l .1
 
+  abbrev process : Process
+  process = processAt s st h r
+
+  abbrev channel : Channel
+  channel = channelAt s st h c
+
   -- what a receive with this reaction keeps, if the logs that it needs have room
   abbrev Kept : Reaction → Entry → List Entry → Type 0
   Kept x e es = anyFull (s .counts) (x .logs) ≡ false → Both s st h c (receiveBy x s c e es)
@@ -75,42 +84,78 @@ module _ (s : GlobalState) (st : List ℕ) (h : History) (c : ℕ) (l : c < s .t
   reacts : {x : Reaction} (e : Entry) (es : List Entry) → reaction s c e ≡ x → Kept x e es → Kept (reaction s c e) e es
   reacts e es is kept = subst (λ (x : Reaction). Kept x e es) (sym is) kept
 
-  -- the sender has no mark outside the logical phase
   module _ (b : ℕ) (u : Bool) (es : List Entry) (first : s .channel c ≡ Message b u ∷ es) where
+    abbrev arrived : Seen
+    arrived = seenOf received c (longer (receivedOn c b) (bookOf h r))
+
+    -- a message that gives no logical checkpoint: it goes into these logs
+    into : (logs : List Log) → reaction s c (Message b u) ≡ logsOnly logs
+        → onMessage (s .topology) c b h ≡ addEvent r (receivedOn c b) h
+        → (anyFull (s .counts) logs ≡ false → Logged s st h i ends c b u es l logs)
+        → (anyFull (s .counts) logs ≡ false → LostOn s st h i ends c b u es l logs)
+        → Kept (reaction s c (Message b u)) (Message b u) es
+    unfolding react logsOnly receivedOutcome onStep onAccepted onReceive nextLine
+    into logs is told lasts lost =
+        reacts (Message b u) es is (λ room. record { lasts = rw told (lasts room); lost = lost room })
+
+    -- into none, into its receiver's message log alone, and into the channel's alone
+    into-none : reaction s c (Message b u) ≡ logsOnly [] → onMessage (s .topology) c b h ≡ addEvent r (receivedOn c b) h
+        → Receives s st h i ends c b u es l (receiving c b (process .count) (process .pending) process)
+        → Leaves s st h i ends c b u es l (leaving es arrived (channel .count) (channel .pending) channel)
+        → Kept (reaction s c (Message b u)) (Message b u) es
+    unfolding raisedAll logsWrites writeAll
+    into-none is told receives leaves =
+        into [] is told (λ room. unlogged s st h i ends c b u es l receives leaves) (λ room x k. absurd (omega arith))
+
+    into-message : reaction s c (Message b u) ≡ logsOnly (messageLog r ∷ [])
+        → onMessage (s .topology) c b h ≡ addEvent r (receivedOn c b) h
+        → Receives s st h i ends c b u es l
+        (receiving c b (process .count + 1) (loggedSlot (receipt c b) process) process)
+        → Leaves s st h i ends c b u es l (leaving es arrived (channel .count) (channel .pending) channel)
+        → Kept (reaction s c (Message b u)) (Message b u) es
+    unfolding anyFull raisedAll logsWrites logWrites appendWrites cellWrites
+    into-message is told receives leaves =
+        into (messageLog r ∷ []) is told
+        (λ room. message-alone s st h i ends c b u es l fits (leb-false _ _ (or-left _ _ room)) receives leaves)
+        (λ room. log-lost-kept s st h i fits (messageLog r) rl (receipt c b) (leb-false _ _ (or-left _ _ room)))
+
+    into-channel : reaction s c (Message b u) ≡ logsOnly (channelLog c ∷ [])
+        → onMessage (s .topology) c b h ≡ addEvent r (receivedOn c b) h
+        → Receives s st h i ends c b u es l (receiving c b (process .count) (process .pending) process)
+        → Leaves s st h i ends c b u es l (leaving es arrived (channel .count + 1) (loggedHeld b channel) channel)
+        → Kept (reaction s c (Message b u)) (Message b u) es
+    unfolding anyFull raisedAll logsWrites logWrites appendWrites cellWrites
+    into-channel is told receives leaves =
+        into (channelLog c ∷ []) is told
+        (λ room. channel-alone s st h i ends c b u es l fits (leb-false _ _ (or-left _ _ room)) receives leaves)
+        (λ room. log-lost-kept s st h i fits (channelLog c) l (receipt c b) (leb-false _ _ (or-left _ _ room)))
+
+    -- the sender has no mark outside the logical phase
     idle : s .round .phase ≡ Idle → Kept (reaction s c (Message b u)) (Message b u) es
     unfolding reaction reactionTo bookOf
     idle phase =
-        reacts (Message b u) es (rw phase)
-        (λ room.
-        message-unlogged s st h i ends c b u es l fits
-        (on-unmarked (s .topology) c b h (process-in i phase _ (ends c l .0) .round .mark))
+        into-none (rw phase) (on-unmarked (s .topology) c b h (process-in i phase _ (ends c l .0) .round .mark))
         (rw phase (received-idle c b (process-in i phase r rl)))
         (rw phase
-        (left-idle (i .tag) r (processAt s st h r) (channelAt s st h c) c b u es first refl (process-in i phase r rl)
-        (channel-in i phase c l))))
+        (left-idle (i .tag) r process channel c b u es first refl (process-in i phase r rl) (channel-in i phase c l)))
 
     physical : (next : ℕ) → s .round .phase ≡ Physical next → Tested (ltb r next)
         → Kept (reaction s c (Message b u)) (Message b u) es
-    unfolding reaction reactionTo bookOf anyFull logsOnly
+    unfolding reaction reactionTo bookOf
     physical next phase (holds e) =
-        reacts (Message b u) es (rw (phase, e))
-        (λ room.
-        message-logged s st h i ends c b u es l fits
+        into-message (rw (phase, e))
         (on-unmarked (s .topology) c b h (process-in i phase _ (ends c l .0) .round .plain .mark))
-        (leb-false _ _ (or-left _ _ room))
         (rw phase (received-saved next c b (ltb-true r next e) (process-in i phase r rl)))
         (rw phase
-        (left-physical (i .tag) r (processAt s st h r) (channelAt s st h c) c b u es first refl next
-        (process-in i phase r rl) (channel-in i phase c l))))
+        (left-physical (i .tag) r process channel c b u es first refl next (process-in i phase r rl)
+        (channel-in i phase c l)))
     physical next phase (fails e) =
-        reacts (Message b u) es (rw (phase, e))
-        (λ room.
-        message-unlogged s st h i ends c b u es l fits
+        into-none (rw (phase, e))
         (on-unmarked (s .topology) c b h (process-in i phase _ (ends c l .0) .round .plain .mark))
         (rw phase (received-waiting next c b (ltb-false r next e) (process-in i phase r rl)))
         (rw phase
-        (left-physical (i .tag) r (processAt s st h r) (channelAt s st h c) c b u es first refl next
-        (process-in i phase r rl) (channel-in i phase c l))))
+        (left-physical (i .tag) r process channel c b u es first refl next (process-in i phase r rl)
+        (channel-in i phase c l)))
 
     -- in the logical phase, with a receiver that has its logical checkpoint: a new message, and an old one
     module _ (phase : s .round .phase ≡ Logical) where
@@ -119,48 +164,35 @@ module _ (s : GlobalState) (st : List ℕ) (h : History) (c : ℕ) (l : c < s .t
 
       after : s .progress .logical r ≡ true → Tested (Bool·beq u (s .tag r))
           → Kept (reaction s c (Message b u)) (Message b u) es
-      unfolding reaction reactionTo bookOf anyFull logsOnly tagged
+      unfolding reaction reactionTo bookOf tagged
       after e (holds q) =
-          reacts (Message b u) es (rw (phase, e, q))
-          (λ room.
-          message-unlogged s st h i ends c b u es l fits
-          (on-marked (s .topology) c b h (process-in i phase r rl .round .mark) e)
+          into-none (rw (phase, e, q)) (on-marked (s .topology) c b h (process-in i phase r rl .round .mark) e)
           (rw phase (received-after c b e (process-in i phase r rl)))
           (rw phase
-          (left-new (i .tag) r (processAt s st h r) (channelAt s st h c) c b u es first refl (process-in i phase r rl)
-          refl
-          (channel-in i phase c l) e (beq-same _ _ q ∙ own-tag true e))))
+          (left-new (i .tag) r process channel c b u es first refl (process-in i phase r rl) refl
+          (channel-in i phase c l) e (beq-same _ _ q ∙ own-tag true e)))
       after e (fails q) =
-          reacts (Message b u) es (rw (phase, e, q))
-          (λ room.
-          channel-logged s st h i ends c b u es l fits
-          (on-marked (s .topology) c b h (process-in i phase r rl .round .mark) e)
-          (leb-false _ _ (or-left _ _ room))
+          into-channel (rw (phase, e, q)) (on-marked (s .topology) c b h (process-in i phase r rl .round .mark) e)
           (rw phase (received-after c b e (process-in i phase r rl)))
           (rw phase
-          (left-logged (i .tag) r (processAt s st h r) (channelAt s st h c) c b u es first refl
-          (process-in i phase r rl)
-          refl (channel-in i phase c l) e (beq-other _ _ q ∙ ap not (own-tag true e) ∙ Bool·not-not _))))
+          (left-logged (i .tag) r process channel c b u es first refl (process-in i phase r rl) refl
+          (channel-in i phase c l) e (beq-other _ _ q ∙ ap not (own-tag true e) ∙ Bool·not-not _)))
 
       -- with one that has none yet: an old message, and a new one, which gives it its logical checkpoint first
       before-old : s .progress .logical r ≡ false → Bool·beq u (s .tag r) ≡ true
           → Kept (reaction s c (Message b u)) (Message b u) es
-      unfolding reaction reactionTo bookOf seenOf anyFull logsOnly tagged
+      unfolding reaction reactionTo bookOf seenOf tagged
       before-old e q =
           let old : u ≡ i .tag = beq-same _ _ q ∙ own-tag false e in
-          reacts (Message b u) es (rw (phase, e, q))
-          (λ room.
-          message-logged s st h i ends c b u es l fits
+          into-message (rw (phase, e, q))
           (on-early (s .topology) c b h
           (old-is-early (s .topology) c b h (process-in i phase _ (ends c l .0) .round .mark)
           (no-mark (process-in i phase r rl .round .mark) e) (rw first at (channel-in i phase c l .round .balanced))
           old))
-          (leb-false _ _ (or-left _ _ room))
           (rw phase (received-before c b e (process-in i phase r rl)))
           (rw phase
-          (left-before (i .tag) r (processAt s st h r) (channelAt s st h c) c b u es first refl
-          (process-in i phase r rl)
-          refl (channel-in i phase c l) e old)))
+          (left-before (i .tag) r process channel c b u es first refl (process-in i phase r rl) refl
+          (channel-in i phase c l) e old))
 
       module _ (e : s .progress .logical r ≡ false) (q : Bool·beq u (s .tag r) ≡ false) where
         new : u ≡ not (i .tag)
@@ -207,11 +239,9 @@ module _ (s : GlobalState) (st : List ℕ) (h : History) (c : ℕ) (l : c < s .t
   -- the marker, which comes in the logical phase alone
   module _ (es : List Entry) (first : s .channel c ≡ Marker ∷ es) (phase : s .round .phase ≡ Logical) where
     marker : Tested (s .progress .logical r) → Kept (reaction s c Marker) Marker es
-    unfolding reaction reactionTo react raisedAll logsWrites writeAll receivedOutcome onStep onAccepted onReceive
-        logicalCheckpoint withTag withProgress withLogical withClosed withCounts setEntries withChannel close
-        enterMessage
-        bookOf
-        markUnmarked
+    unfolding reaction reactionTo react raisedAll logsWrites writeAll receivedOutcome onStep onAccepted
+        onReceive logicalCheckpoint withTag withProgress withLogical withClosed withCounts setEntries
+        withChannel close enterMessage bookOf markUnmarked
     marker (holds e) =
         reacts {x = record { logicalFirst = false; closes = true; logs = [] }} Marker es (rw (phase, e))
         (λ room.
