@@ -2,7 +2,7 @@
 -- reaches has a sound state, a step there is refused with 8 to 13 alone, and a recover not at all.
 use Prim.Native.Nat.{ℕ, _<_, _≤_}
 use mathlib.Core.Path.{_≡_, refl, sym, ap, subst}
-use mathlib.Core.Bool.{Bool, true, false, _&&_, Bool·beq}
+use mathlib.Core.Bool.{Bool, true, false, _&&_}
 use mathlib.Core.List.{List, [], _∷_}
 use mathlib.Core.Option.{Option, none, some, Option·some-ne-none}
 use lib.ListN.{length}
@@ -24,7 +24,7 @@ use Rattle.model.specs.Sound.{sound}
 use Rattle.model.specs.Outcome.{refused, cut}
 use Rattle.model.specs.Heard.{accepted}
 use Rattle.model.specs.Write.{underBudget}
-use Rattle.model.specs.Receive.{Reaction, logsOnly, reactionTo}
+use Rattle.model.specs.Receive.{logsOnly, reactionTo}
 use Rattle.model.specs.Step.{reaction, firstReaction, markerOnClosed, priorChecks, roomChecks, logChecks}
 use Rattle.model.specs.Step.{ownChecks}
 use Rattle.model.specs.Step.{stepChecks, quietly, resultOf, step, answer}
@@ -32,10 +32,11 @@ use Rattle.model.specs.Start.{recover, stateOr}
 use Rattle.model.specs.History.{History}
 use Rattle.model.specs.Run.{Call, call, recovery, World, next, run, firstWorld, stateAfter}
 use Rattle.model.specs.Reached.{Demand3Companion}
-use Rattle.model.proofs.laws.Tests.{and-left, and-right, true-is-not-false, Tested, holds, fails, test, either}
+use Rattle.model.proofs.laws.Tests.{and-left, and-right, true-is-not-false, Tested, holds, fails, test}
 use Rattle.model.proofs.laws.Passing.{below}
 use Rattle.model.proofs.laws.Calls.{Powered, lost, lasts, power-cases}
 use Rattle.model.proofs.laws.Effects.{effect-accepted}
+use Rattle.model.proofs.laws.Receiving.{message-open}
 use Rattle.model.proofs.Soundness.{initialize-sound, answer-sound, recover-sound}
 use Rattle.model.proofs.line.ChannelState.{open-at-marker}
 use Rattle.model.proofs.line.Invariant.{Inv}
@@ -85,15 +86,6 @@ refused-by s x st budget r e = go (firstRefusal (stepChecks s (length st) x)) (p
     go (some r′) (lasts l q) f = let z : refused r′ ≡ refused r = rw q at f in cc
 
 -- 14: a message closes no channel, and where a marker is first in the logical phase its channel isn't closed
-message-open : (ph : Phase) (c r : ℕ) (logical tag : Bool) (b : ℕ) (t : Bool)
-    → reactionTo ph c r logical tag (Message b t) .closes ≡ false
-unfolding reactionTo logsOnly
-message-open phase.Idle c r logical tag b t = refl
-message-open (phase.Physical next) c r logical tag b t = refl
-message-open phase.Logical c r true tag b t = refl
-message-open phase.Logical c r false tag b t =
-    either (λ (x : Reaction). x .closes ≡ false) (Bool·beq t tag) _ _ refl refl
-
 module _ (s : GlobalState) (st : List ℕ) (h : History) (fit : sound s ≡ true) (i : Inv s st h) where
   not-on-closed : (c : ℕ) → c < s .topology .channels → markerOnClosed s c ≡ false
   unfolding markerOnClosed firstReaction reaction reactionTo logsOnly

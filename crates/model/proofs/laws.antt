@@ -13,3 +13,5 @@ pub mod SoundLaws
 pub mod HistoryLaws
 pub mod RecordLaws
 pub mod Effects
+pub mod Receiving
+pub mod ChannelEffects

@@ -94,6 +94,9 @@ effect-follows budget s (SendMarker c) = record { topology = refl; line = refl }
 effect-follows budget s Commit = record { topology = refl; line = refl }
 effect-follows budget s Abort = record { topology = refl; line = refl }
 
+pub effect-topology : (s : GlobalState) (x : Step) → effect s x .state .topology ≡ s .topology
+effect-topology s x = effect-follows 0 s x .topology
+
 pub answer-follows : (s : GlobalState) (x : Step) (store : List ℕ) (budget : ℕ)
     → Follows s (answer s x store budget .state)
     (countCommit (call x budget) (heard (answer s x store budget .outcome)) (s .round .line))
