@@ -37,8 +37,8 @@ unfolding
     form.cell form.slot form.processRecord form.channelRecord form.physicalCell form.countCell form.cellsFrom
     form.entriesFrom form.entriesBy form.receiptsBy form.bodiesBy form.logged
     state.noProgress state.noCounts state.raised state.raisedAll state.idleState
-    sound.topologySound sound.channelSound sound.logSound sound.phaseSound sound.lineSound sound.channelSoundIn
-    sound.sound
+    sound.topologySound sound.channelSound sound.logSound sound.phaseSound sound.lineSound sound.channelSoundBy
+    sound.soundBy sound.sound
     write.write write.writeAll write.clearWrites write.physicalWrites write.cellWrites write.appendWrites
     write.logWrites write.logsWrites
     write.commitWrites

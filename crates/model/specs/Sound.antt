@@ -26,9 +26,13 @@ lastLine = 4294967295
 unfoldable pub topologySound : Topology → Bool
 topologySound T = accepts (topologyRefusal T)
 
--- "a planned wire has over 8 entries": channel c of the topology, in this phase, with its marker sent or not, closed or
--- not, and with these entries. Only the entries count so far.
-unfoldable pub channelSound : Topology → Phase → Bool → Bool → ℕ → List Entry → Bool
+-- A rule for channel c of the topology, in this phase, with its marker sent or not, closed or not, and with these
+-- entries.
+abbrev pub ChannelRule : Type 0
+ChannelRule = Topology → Phase → Bool → Bool → ℕ → List Entry → Bool
+
+-- "a planned wire has over 8 entries": only the entries count so far
+unfoldable pub channelSound : ChannelRule
 channelSound T phase sent closed c es = leb (occupied es) channelRoom
 
 -- "the log of a planned board or wire is over its places"
@@ -46,17 +50,21 @@ unfoldable pub lineSound : Round → Bool
 lineSound round = isIdle (round .phase) || not (eqb (round .line) lastLine)
 
 -- channel c, as the state has it
-unfoldable pub channelSoundIn : GlobalState → ℕ → Bool
-channelSoundIn s c =
-    channelSound (s .topology) (s .round .phase) (s .progress .sent c) (s .progress .closed c) c (s .channel c)
+unfoldable pub channelSoundBy : ChannelRule → GlobalState → ℕ → Bool
+channelSoundBy rule s c =
+    rule (s .topology) (s .round .phase) (s .progress .sent c) (s .progress .closed c) c (s .channel c)
 
-unfoldable pub sound : GlobalState → Bool
-sound s =
+-- the clauses, with this rule for channels
+unfoldable pub soundBy : ChannelRule → GlobalState → Bool
+soundBy rule s =
     allTrue
     (topologySound (s .topology)
-    ∷ allBelow (s .topology .channels) (channelSoundIn s)
+    ∷ allBelow (s .topology .channels) (channelSoundBy rule s)
     ∷ allBelow (s .topology .processes) (λ p. logSound (s .counts) (messageLog p))
     ∷ allBelow (s .topology .channels) (λ c. logSound (s .counts) (channelLog c))
     ∷ phaseSound (s .topology) (s .round .phase)
     ∷ lineSound (s .round)
     ∷ [])
+
+unfoldable pub sound : GlobalState → Bool
+sound s = soundBy channelSound s

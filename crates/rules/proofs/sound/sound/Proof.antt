@@ -19,7 +19,8 @@ use Rattle.model.specs.Topology.{channelLimit, topologyRefusal}
 use Rattle.model.specs.Channel.{channelRoom}
 use Rattle.model.specs.State.{view, viewCounts, emptyChannel}
 use Rattle.model.specs.Layout.{messageLog, channelLog}
-use Rattle.model.specs.Sound.{topologySound, channelSound, channelSoundIn, logSound, phaseSound, lineSound, sound}
+use Rattle.model.specs.Sound.{topologySound, channelSound, channelSoundBy, logSound, phaseSound, lineSound, soundBy}
+use Rattle.model.specs.Sound.{sound}
 use Rattle.model.proofs.laws.Lists.{all-next, all-but}
 use Rattle.model.proofs.laws.Functions.{getD-within, length-of}
 use Rattle.model.proofs.laws.ChannelLaws.{entries-count}
@@ -29,7 +30,7 @@ use Rattle.rules.proofs.sound.sound.Tie as tie
 
 -- the definition's clauses: channel c, the message logs, the channel logs, the phase, the line
 abbrev fits : State → ℕ → Bool
-fits s = channelSoundIn (view s)
+fits s = channelSoundBy channelSound (view s)
 
 abbrev messages : State → Bool
 messages s = allBelow (s .topology .processes) (λ p. logSound (view s .counts) (messageLog p))
@@ -46,7 +47,7 @@ line s = lineSound (s .round)
 -- a channel is sound by its count
 room : (s : State) (c : ℕ) (d : Channel) → c < length (s .channels)
     → fits s c ≡ leb (getD (s .channels) c d .count) channelRoom
-unfolding channelSoundIn channelSound view
+unfolding channelSoundBy channelSound view
 room s c d h = rw (entries-count, getD-within (s .channels) c emptyChannel d h)
 
 and-true : (a : Bool) → (a && true) ≡ a
@@ -103,7 +104,7 @@ abbrev L : Looped → State
 L d = S (before d)
 
 rest : (d : Looped) → sound (view (L d)) ≡ allTrue (messages (L d) ∷ logs (L d) ∷ phase (L d) ∷ line (L d) ∷ [])
-unfolding sound topologySound accepts allTrue view
+unfolding sound soundBy topologySound accepts allTrue view
 rest d =
     let l = d .before .before .loop in
     let e : l .c ≡ L d .topology .channels = omega arith in
@@ -158,7 +159,7 @@ by-round g t e =
 
 -- the topology is refused
 returns : tie.Need-returns Inv-loop μ-loop
-unfolding sound topologySound accepts allTrue view refusalOf
+unfolding sound soundBy topologySound accepts allTrue view refusalOf
 returns c = rw (← (c .before .before .check .ensures), c .enum-told2 .given .1)
 
 loop-holds : tie.Need-loop-holds Inv-loop μ-loop
@@ -167,7 +168,7 @@ loop-holds c = (omega arith, refl)
 
 -- a channel has no room for its entries, or has
 returns-2 : tie.Need-returns-2 Inv-loop μ-loop
-unfolding sound topologySound accepts allTrue view
+unfolding sound soundBy topologySound accepts allTrue view
 returns-2 c =
     let b : Turn = c .before .before .before in
     let s = turns b in
