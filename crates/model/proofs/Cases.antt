@@ -33,7 +33,7 @@ unfolding
     word.replayBy
     topology.sender topology.receiver topology.hasProcess topology.hasChannel topology.sameEnds topology.channelRefusal
     topology.sizeRefusal topology.channelsRefusal topology.topologyRefusal
-    channel.bodies channel.messages channel.noRoom channel.noRoomForMessage channel.noRoomForMarker channel.noEntry
+    channel.bodies channel.messages channel.noRoomForMessage channel.noRoomForMarker channel.noEntry
     form.cell form.slot form.processRecord form.channelRecord form.physicalCell form.countCell form.cellsFrom
     form.entriesFrom form.entriesBy form.receiptsBy form.bodiesBy form.logged
     state.noProgress state.noCounts state.raised state.raisedAll state.idleState

@@ -12,7 +12,7 @@ use Rattle.model.specs.declared.Entry.the-variants.{Message}
 use Rattle.model.specs.declared.Step.the-variants.{Send}
 use Rattle.model.specs.Check.{firstRefusal}
 use Rattle.model.specs.Topology.{sender, hasChannel}
-use Rattle.model.specs.Channel.{roomLeft, noRoom, noRoomForMessage}
+use Rattle.model.specs.Channel.{roomLeft, noRoomForMessage}
 use Rattle.model.specs.Layout.{storeCells}
 use Rattle.model.specs.Outcome.{sent, refused, roomSaid}
 use Rattle.model.specs.State.{GlobalState}
@@ -38,7 +38,7 @@ module _ (s : GlobalState) (store : List ℕ) (c d budget : ℕ) (fit : sound s 
   full : eqb (roomLeft es) 0 ≡ true → answer s (Send c d) store budget .outcome ≡ refused 9
   unfolding
       answer step stepChecks ownChecks priorChecks roomChecks firstRefusal resultOf quietly underBudget hasChannel
-      noRoomForMessage noRoom
+      noRoomForMessage
   full e =
       rw (
         fit,
@@ -52,7 +52,7 @@ module _ (s : GlobalState) (store : List ℕ) (c d budget : ℕ) (fit : sound s 
   free : eqb (roomLeft es) 0 ≡ false → answer s (Send c d) store budget .outcome ≡ sent (roomLeft es - 1)
   unfolding
       answer step stepChecks ownChecks priorChecks roomChecks logChecks firstRefusal resultOf effect quietly underBudget
-      hasChannel noRoomForMessage noRoom
+      hasChannel noRoomForMessage
   free e =
       rw (
         fit,

@@ -18,7 +18,7 @@ use Rattle.model.specs.declared.Step.the-variants.{Send, Receive, Begin,
 use Rattle.model.specs.declared.Step.the-variants.{LogicalCheckpoint, SendMarker, Commit, Abort}
 use Rattle.model.specs.Notation.{allBelow}
 use Rattle.model.specs.Topology.{hasProcess, hasChannel, topologyRefusal}
-use Rattle.model.specs.Channel.{roomLeft, messages, noRoom, noRoomForMessage, noRoomForMarker}
+use Rattle.model.specs.Channel.{roomLeft, messages, noRoomForMessage, noRoomForMarker}
 use Rattle.model.specs.Phase.{isIdle, isNext}
 use Rattle.model.specs.Layout.{present, Log, messageLog, channelLog, places, logged, entriesFrom}
 use Rattle.model.specs.State.{GlobalState, LogCounts, countOf, raised, raisedAll, idleState, noCounts, noProgress}
@@ -171,7 +171,7 @@ module _ (rule : ChannelRule) (s : GlobalState) (h : SoundBy rule s) where
 -- what a channel may hold, after a step that finds room
 becomes-fit : (s : GlobalState) (c : ℕ) (x : Step) (es : List Entry) → Passed (roomChecks s x) → RoomFits (s .channel c)
     → Becomes s c x es → RoomFits es
-unfolding roomChecks noRoomForMessage noRoomForMarker noRoom messages
+unfolding roomChecks noRoomForMessage noRoomForMarker messages
 becomes-fit s c x es room h stays = h
 becomes-fit s c x es room h (message b) =
     rw (length-append (s .channel c) (Message b _ ∷ []))

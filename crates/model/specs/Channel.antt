@@ -53,16 +53,12 @@ occupied es = length es
 abbrev pub roomLeft : List Entry → ℕ
 roomLeft es = channelRoom - occupied es
 
--- "9 wire holds 8 entries": there is no room for one more
-unfoldable pub noRoom : List Entry → Bool
-noRoom es = eqb (roomLeft es) 0
-
--- for a message, and for a marker
+-- "9 wire holds 8 entries": there is no room for one more message, and none for a marker
 unfoldable pub noRoomForMessage : List Entry → Bool
-noRoomForMessage es = noRoom es
+noRoomForMessage es = eqb (roomLeft es) 0
 
 unfoldable pub noRoomForMarker : List Entry → Bool
-noRoomForMarker es = noRoom es
+noRoomForMarker es = eqb (roomLeft es) 0
 
 -- "10 wire empty"
 unfoldable pub noEntry : List Entry → Bool

@@ -15,7 +15,7 @@ use Rattle.model.specs.declared.Step.the-variants.{Send}
 use Rattle.model.specs.Outcome as says
 use Rattle.model.specs.Check.{firstRefusal}
 use Rattle.model.specs.Topology.{processLimit, channelLimit, sender, hasChannel}
-use Rattle.model.specs.Channel.{roomLeft, entries, noRoom, noRoomForMessage}
+use Rattle.model.specs.Channel.{roomLeft, entries, noRoomForMessage}
 use Rattle.model.specs.State.{view}
 use Rattle.model.specs.Change.{setEntries}
 use Rattle.model.specs.Step.{priorChecks, roomChecks, logChecks, ownChecks, effect, quietly}
@@ -35,11 +35,11 @@ module _ (s : State) (c b : ℕ) where
   -- on a channel of the topology, whose places are those of x
   module _ (l : c < s .topology .channels) (x : Channel) (e : view s .channel c ≡ entries x) where
     full : roomLeft (entries x) ≡ 0 → firstRefusal (ownChecks (view s) (Send c b)) ≡ some 9
-    unfolding ownChecks priorChecks roomChecks logChecks hasChannel noRoomForMessage noRoom firstRefusal view
+    unfolding ownChecks priorChecks roomChecks logChecks hasChannel noRoomForMessage firstRefusal view
     full k = rw (lt-ltb c (s .topology .channels) l, e, eq-eqb (roomLeft (entries x)) 0 k)
 
     passed : (roomLeft (entries x) ≡ 0 → ⊥) → firstRefusal (ownChecks (view s) (Send c b)) ≡ none
-    unfolding ownChecks priorChecks roomChecks logChecks hasChannel noRoomForMessage noRoom firstRefusal view
+    unfolding ownChecks priorChecks roomChecks logChecks hasChannel noRoomForMessage firstRefusal view
     passed k = rw (lt-ltb c (s .topology .channels) l, e, ne-eqb (roomLeft (entries x)) 0 k)
 
     -- and those of y once the message is on it

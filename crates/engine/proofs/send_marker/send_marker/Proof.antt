@@ -16,7 +16,7 @@ use Rattle.model.specs.declared.Step.the-variants.{SendMarker}
 use Rattle.model.specs.Outcome as says
 use Rattle.model.specs.Check.{firstRefusal}
 use Rattle.model.specs.Topology.{processLimit, channelLimit, sender, hasChannel}
-use Rattle.model.specs.Channel.{roomLeft, entries, noRoom, noRoomForMarker}
+use Rattle.model.specs.Channel.{roomLeft, entries, noRoomForMarker}
 use Rattle.model.specs.State.{view, viewProgress}
 use Rattle.model.specs.Change.{setEntries, recordSent}
 use Rattle.model.specs.Step.{maySendMarker, priorChecks, roomChecks, logChecks, ownChecks, effect, quietly}
@@ -42,11 +42,11 @@ module _ (s : State) (c : ℕ) where
     -- where it may be sent, and the channel's places are those of x
     module _ (t : maySendMarker (view s) c ≡ true) (x : Channel) (e : view s .channel c ≡ entries x) where
       full : roomLeft (entries x) ≡ 0 → firstRefusal (ownChecks (view s) (SendMarker c)) ≡ some 9
-      unfolding ownChecks priorChecks roomChecks logChecks hasChannel noRoomForMarker noRoom firstRefusal view
+      unfolding ownChecks priorChecks roomChecks logChecks hasChannel noRoomForMarker firstRefusal view
       full k = rw (lt-ltb c (s .topology .channels) l, t, e, eq-eqb (roomLeft (entries x)) 0 k)
 
       passed : (roomLeft (entries x) ≡ 0 → ⊥) → firstRefusal (ownChecks (view s) (SendMarker c)) ≡ none
-      unfolding ownChecks priorChecks roomChecks logChecks hasChannel noRoomForMarker noRoom firstRefusal view
+      unfolding ownChecks priorChecks roomChecks logChecks hasChannel noRoomForMarker firstRefusal view
       passed k = rw (lt-ltb c (s .topology .channels) l, t, e, ne-eqb (roomLeft (entries x)) 0 k)
 
       done : effect (view s) (SendMarker c)
