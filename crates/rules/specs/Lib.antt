@@ -1,2 +1,3 @@
 -- What the functions of rules promise in terms of the model's definitions.
+pub mod Ends
 pub mod Reacting

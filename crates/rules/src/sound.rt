@@ -7,7 +7,6 @@ use model::Phase;
 use model::Round;
 use model::State;
 use model::Topology;
-use model::Verdict;
 ghost use mathlib.Core.Path.{_≡_};
 ghost use Prim.Native.Nat.{_≤_};
 ghost use lib.ListN.{length, getD};
@@ -21,14 +20,13 @@ fn at_most(counts: &[u8], n: u8, limit: u8) -> bool
     requires { ⌜ n ≤ length (now counts) ⌝ }
     ensures { λ r. ⌜ r ≡ allBelow n (λ i. leb (getD (now (counts .entry)) i 0) limit) ⌝ }
 {
+    let mut fit = true;
     let mut i: usize = 0;
     while i < n as usize {
-        if limit < counts[i] {
-            return false;
-        }
+        fit = fit & (counts[i] <= limit);
         i += 1;
     }
-    true
+    fit
 }
 
 // Whether the next process to have its physical checkpoint, if any, is in the topology.
@@ -55,9 +53,9 @@ pub fn sound(s: State) -> bool
     ensures { λ r. ⌜ r ≡ sound (view s) ⌝ }
 {
     let t = s.topology;
-    let Verdict::Pass = topology::check(t) else {
+    if !topology::passes(t) {
         return false;
-    };
+    }
     let mut c: usize = 0;
     while c < t.channels as usize {
         let channel = s.channels[c];

@@ -6,7 +6,11 @@ use model::Topology;
 use model::Verdict;
 ghost use mathlib.Core.Path.{_≡_};
 ghost use Prim.Native.Nat.{_+_, _*_, _≤_, _<_};
+ghost use mathlib.Core.Bool.{true};
+ghost use Rattle.model.specs.Notation.{allBelow};
 ghost use Rattle.model.specs.Outcome.{refusalOf};
+ghost use Rattle.model.specs.Sound.{topologySound};
+ghost use Rattle.rules.specs.Ends.{joinsTwo, apart};
 ghost use Rattle.model.specs.Topology.{processLimit, channelLimit, sizeRefusal, channelsRefusal, topologyRefusal};
 
 // How many pairs of processes there are.
@@ -66,4 +70,50 @@ pub fn check(t: Topology) -> Verdict
         Verdict::Pass => channels(t),
         Verdict::Refuse(r) => Verdict::Refuse(r),
     }
+}
+
+// Whether every channel joins two different processes of the topology.
+fn joined(t: Topology) -> bool
+    requires { ⌜ t .channels ≤ channelLimit ⌝ }
+    ensures { λ r. ⌜ r ≡ allBelow (t .channels) (joinsTwo t) ⌝ }
+{
+    let mut so = true;
+    let mut c: usize = 0;
+    while c < t.channels as usize {
+        let from = t.from[c];
+        let to = t.to[c];
+        so = so & (((from < t.processes) & (to < t.processes)) & (from != to));
+        c += 1;
+    }
+    so
+}
+
+// Whether no two channels have the same ends in the same direction.
+fn distinct(t: Topology) -> bool
+    requires { ⌜ (t .processes ≤ processLimit) × (t .channels ≤ channelLimit) × (allBelow (t .channels) (joinsTwo t) ≡ true) ⌝ }
+    ensures { λ r. ⌜ r ≡ allBelow (t .channels) (apart t) ⌝ }
+{
+    let mut seen = [false; PAIRS];
+    let mut so = true;
+    let mut c: usize = 0;
+    while c < t.channels as usize {
+        let at = place(t.from[c], t.to[c]);
+        so = so & !seen[at];
+        seen[at] = true;
+        c += 1;
+    }
+    so
+}
+
+// Whether a topology, any whatever, passes refusals 1 to 5: check without the number, and with no way out of its loops.
+pub fn passes(t: Topology) -> bool
+    ensures { λ r. ⌜ r ≡ topologySound t ⌝ }
+{
+    let Verdict::Pass = sizes(t.processes, t.channels) else {
+        return false;
+    };
+    if !joined(t) {
+        return false;
+    }
+    distinct(t)
 }

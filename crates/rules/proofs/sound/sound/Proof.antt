@@ -2,7 +2,7 @@
 -- rewrites the definition by those before it. The loop's invariant: each channel below c is sound.
 use Prim.Native.Nat.{ℕ, _-_, _≤_, _<_}
 use mathlib.Core.Path.{_≡_, refl, sym, ap, _∙_}
-use mathlib.Core.Option.{none}
+use mathlib.Core.Option.{Option, none, some}
 use mathlib.Core.Bool.{Bool, true, false, _&&_}
 use mathlib.Core.List.{[], _∷_}
 use native.Mathlib.Omega.{arith}
@@ -24,6 +24,7 @@ use Rattle.model.specs.Sound.{sound}
 use Rattle.model.proofs.laws.Lists.{all-next, all-but}
 use Rattle.model.proofs.laws.Functions.{getD-within, length-of}
 use Rattle.model.proofs.laws.ChannelLaws.{entries-count}
+use Rattle.model.proofs.laws.Tests.{true-is-not-false}
 use Rattle.model.proofs.laws.TopologyLaws.{SizesFit, accepted-sizes}
 use Rattle.rules.proofs.sound.sound.Statement.{statement}
 use Rattle.rules.proofs.sound.sound.Tie as tie
@@ -62,24 +63,32 @@ abbrev μ-loop : tie.MeasureT-loop
 
 -- past the topology's check
 abbrev Checked : Type 0
-Checked = tie.After-enum-told Inv-loop μ-loop
+Checked = tie.Else1 Inv-loop μ-loop
 
 abbrev S : Checked → State
-S p = p .before .before .before .before .args .t1
+S p = p .before .before .before .args .t1
+
+sound-so : (p : Checked) → topologySound (S p .topology) ≡ true
+sound-so p = sym (p .before .passes .ensures) ∙ not-false _ (p .if1 .left)
+
+accepts-none : (o : Option ℕ) → accepts o ≡ true → o ≡ none
+unfolding accepts
+accepts-none none e = refl
+accepts-none (some r) e = true-is-not-false e refl
 
 accepted : (p : Checked) → topologyRefusal (S p .topology) ≡ none
-unfolding refusalOf
-accepted p = sym (p .before .before .check .ensures) ∙ ap refusalOf (p .enum-told .given .1)
+unfolding topologySound
+accepted p = accepts-none (topologyRefusal (S p .topology)) (sound-so p)
 
 sizes : (p : Checked) → SizesFit (S p .topology .processes) (S p .topology .channels)
 sizes p = accepted-sizes (S p .topology) (accepted p)
 
 sized : (p : Checked) → length (S p .channels) ≡ channelLimit
-sized p = let start = p .before .before .before .before in search length-of
+sized p = let start = p .before .before .before in search length-of
 
 -- in a turn of the loop
 abbrev Turn : Type 0
-Turn = tie.Then1 Inv-loop μ-loop
+Turn = tie.Then2 Inv-loop μ-loop
 
 abbrev checked : Turn → Checked
 checked b = b .before .before .before
@@ -95,7 +104,7 @@ below b = omega (arith, sized (checked b), sizes (checked b) .channels)
 
 -- past the loop
 abbrev Looped : Type 0
-Looped = tie.Else1 Inv-loop μ-loop
+Looped = tie.Else2 Inv-loop μ-loop
 
 abbrev before : Looped → Checked
 before d = d .before .before .before
@@ -104,12 +113,12 @@ abbrev L : Looped → State
 L d = S (before d)
 
 rest : (d : Looped) → sound (view (L d)) ≡ allTrue (messages (L d) ∷ logs (L d) ∷ phase (L d) ∷ line (L d) ∷ [])
-unfolding sound soundBy topologySound accepts allTrue view
+unfolding sound soundBy allTrue view
 rest d =
     let l = d .before .before .loop in
     let e : l .c ≡ L d .topology .channels = omega arith in
     let passed : allBelow (L d .topology .channels) (fits (L d)) ≡ true = rw e at (l .inv .1) in
-    rw (accepted (before d), passed)
+    rw (sound-so (before d), passed)
 
 -- past the test of the message logs
 abbrev Messages : Type 0
@@ -137,7 +146,7 @@ unfolding view viewCounts logSound
 logs-told f = sym (f .at-most2 .ensures)
 
 messages-held : (f : Logs) → messages (M f) ≡ true
-messages-held f = messages-told (first f) ∙ not-false _ (f .before .before .before .before .if3 .left)
+messages-held f = messages-told (first f) ∙ not-false _ (f .before .before .before .before .if4 .left)
 
 -- past the test of the phase
 abbrev Phased : Type 0
@@ -147,7 +156,7 @@ abbrev second : Phased → Logs
 second g = g .before .before .before
 
 logs-held : (g : Phased) → logs (M (second g)) ≡ true
-logs-held g = logs-told (second g) ∙ not-false _ (g .before .before .if4 .left)
+logs-held g = logs-told (second g) ∙ not-false _ (g .before .before .if5 .left)
 
 by-round : (g : Phased) (t : Bool) → g .phase-sound .result ≡ t
     → sound (view (M (second g))) ≡ (t && line (M (second g)))
@@ -159,8 +168,11 @@ by-round g t e =
 
 -- the topology is refused
 returns : tie.Need-returns Inv-loop μ-loop
-unfolding sound soundBy topologySound accepts allTrue view refusalOf
-returns c = rw (← (c .before .before .check .ensures), c .enum-told2 .given .1)
+unfolding sound soundBy allTrue view
+returns c =
+    let not-so : topologySound (c .before .before .before .args .t1 .topology) ≡ false =
+    sym (c .before .passes .ensures) ∙ not-true _ (c .if1 .taken) in
+    rw not-so
 
 loop-holds : tie.Need-loop-holds Inv-loop μ-loop
 unfolding allBelow
@@ -168,18 +180,18 @@ loop-holds c = (omega arith, refl)
 
 -- a channel has no room for its entries, or has
 returns-2 : tie.Need-returns-2 Inv-loop μ-loop
-unfolding sound soundBy topologySound accepts allTrue view
+unfolding sound soundBy allTrue view
 returns-2 c =
     let b : Turn = c .before .before .before in
     let s = turns b in
-    let over : fits s (at b) ≡ false = room s (at b) _ (below b) ∙ lt-leb _ _ (c .if2 .taken) in
-    rw (accepted (checked b), all-but (s .topology .channels) (at b) (fits s) (b .if1 .taken) over)
+    let over : fits s (at b) ≡ false = room s (at b) _ (below b) ∙ lt-leb _ _ (c .if3 .taken) in
+    rw (sound-so (checked b), all-but (s .topology .channels) (at b) (fits s) (b .if2 .taken) over)
 
 loop-again : tie.Need-loop-again Inv-loop μ-loop
 loop-again c =
     let b : Turn = c .before .before .before in
     let l = b .before .before .loop in
-    let within : fits (turns b) (at b) ≡ true = room (turns b) (at b) _ (below b) ∙ le-leb _ _ (c .if2 .left) in
+    let within : fits (turns b) (at b) ≡ true = room (turns b) (at b) _ (below b) ∙ le-leb _ _ (c .if3 .left) in
     (omega arith, all-next (at b) (fits (turns b)) (l .inv .1) within)
 
 -- a message log, and a channel log, is over its places
@@ -187,14 +199,14 @@ returns-3 : tie.Need-returns-3 Inv-loop μ-loop
 unfolding allTrue
 returns-3 c =
     let a : Messages = c .before in
-    let over : messages (L (looped a)) ≡ false = messages-told a ∙ not-true _ (c .if3 .taken) in
+    let over : messages (L (looped a)) ≡ false = messages-told a ∙ not-true _ (c .if4 .taken) in
     sym (rest (looped a) ∙ rw over)
 
 returns-4 : tie.Need-returns-4 Inv-loop μ-loop
 unfolding allTrue
 returns-4 c =
     let f : Logs = c .before in
-    let over : logs (M f) ≡ false = logs-told f ∙ not-true _ (c .if4 .taken) in
+    let over : logs (M f) ≡ false = logs-told f ∙ not-true _ (c .if5 .taken) in
     sym (rest (looped (first f)) ∙ rw (messages-held f, over))
 
 pub sound-spec : {M : Type 1} → statement M
@@ -204,8 +216,6 @@ sound-spec =
     Inv-loop
     μ-loop
     (λ c κs. search needs)
-    (λ c. search needs)
-    (λ c. search needs)
     returns
     loop-holds
     (λ c. omega (arith, sizes (c .before .before) .channels))
@@ -221,5 +231,5 @@ sound-spec =
     returns-4
     (λ c κs. search needs)
     (λ c κs. search needs)
-    (λ c. c .line-sound .ensures ∙ sym (by-round (c .before .before) true (c .before .if5 .taken)))
-    (λ c. c .if5 .left ∙ sym (by-round (c .before) false (c .if5 .left))))
+    (λ c. c .line-sound .ensures ∙ sym (by-round (c .before .before) true (c .before .if6 .taken)))
+    (λ c. c .if6 .left ∙ sym (by-round (c .before) false (c .if6 .left))))
