@@ -90,31 +90,31 @@ pub fn in_phase(mut state: State, phase: Phase) -> State {
 // So many messages on a channel.
 pub fn with_messages(mut state: State, channel: usize, count: u8) -> State {
     let c = channel % CHANNELS;
-    let mut held = state.channels[c];
-    held.bodies = [BODY; CHANNEL_ROOM];
-    held.count = count;
-    state.channels[c] = held;
+    let mut places = state.places[c];
+    places.bodies = [BODY; CHANNEL_ROOM];
+    state.places[c] = places;
+    state.lengths[c] = count;
     state
 }
 
 // A message alone on a channel, with tag 1: its receiver's is 0.
 pub fn with_other_tag(mut state: State, channel: usize) -> State {
     let c = channel % CHANNELS;
-    let mut held = state.channels[c];
-    held.bodies[0] = BODY;
-    held.kinds[0] = 1;
-    held.count = 1;
-    state.channels[c] = held;
+    let mut places = state.places[c];
+    places.bodies[0] = BODY;
+    places.kinds[0] = 1;
+    state.places[c] = places;
+    state.lengths[c] = 1;
     state
 }
 
 // A marker alone on a channel.
 pub fn with_marker(mut state: State, channel: usize) -> State {
     let c = channel % CHANNELS;
-    let mut held = state.channels[c];
-    held.kinds[0] = MARKER;
-    held.count = 1;
-    state.channels[c] = held;
+    let mut places = state.places[c];
+    places.kinds[0] = MARKER;
+    state.places[c] = places;
+    state.lengths[c] = 1;
     state
 }
 

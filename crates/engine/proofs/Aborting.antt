@@ -4,20 +4,15 @@ use mathlib.Core.Path.{_≡_, refl, sym, ap, fun-ext, _∙_}
 use mathlib.Core.Bool.{false, cond}
 use mathlib.Core.List.{List}
 use native.Mathlib.Omega.{arith}
-use lib.ListN.{replicate}
 use lib.Dec.{ltb}
 use borrow.Author.Tests.{lt-ltb, le-ltb, ltb-true, ltb-false}
-use Rattle.model.specs.declared.State.{State}
-use Rattle.model.specs.declared.Flags.{Flags}
 use Rattle.model.specs.declared.Entry.{Entry}
-use Rattle.model.specs.declared.Phase.the-variants.{Idle}
 use Rattle.model.specs.Notation.{upd}
-use Rattle.model.specs.Topology.{processLimit, hasChannel}
 use Rattle.model.specs.Channel.{bodies, messages}
-use Rattle.model.specs.State.{GlobalState, noProgress, viewProgress, view}
-use Rattle.model.specs.Change.{withRound, withTag, withChannel, withProgress, setEntries, plainChannels, endRound}
+use Rattle.model.specs.State.{GlobalState}
+use Rattle.model.specs.Change.{withChannel, setEntries}
 use Rattle.model.proofs.laws.Tests.{Tested, holds, fails, test}
-use Rattle.model.proofs.laws.Functions.{Indices, same, other, indices, upd-at, upd-other, seen-replicate}
+use Rattle.model.proofs.laws.Functions.{Indices, same, other, indices, upd-at, upd-other}
 use Rattle.engine.proofs.Views.{same-state}
 
 -- the first n channels with their messages alone, tagged 0
@@ -60,24 +55,3 @@ module _ (before now : GlobalState) (n : ℕ) (h : now ≡ plainTo n before) whe
       ap (λ (s : GlobalState). setEntries n es s) h
       ∙ ap (λ (l : List Entry). withChannel (upd (plainFirst n (before .channel)) n l) before) e
       ∙ ap (λ (f : ℕ → List Entry). withChannel f before) (plain-more n (before .channel))
-
--- the state that the code answers, all of its channels being so
-pub aborted : (before now : State) (f : Flags) → viewProgress f ≡ noProgress
-    → view now ≡ plainTo (before .topology .channels) (view before)
-    → view
-    (record {
-      topology = now .topology;
-      round = record { line = before .round .line; phase = Idle };
-      words = now .words;
-      tags = replicate processLimit false;
-      channels = now .channels;
-      flags = f;
-      counts = now .counts;
-    })
-    ≡ endRound (view before .round .line)
-    (withTag (λ p. false) (withChannel (plainChannels (view before)) (view before)))
-unfolding view withRound withTag withChannel withProgress plainChannels endRound hasChannel
-aborted before now f none h =
-    same-state (ap (λ (s : GlobalState). s .topology) h) refl (ap (λ (s : GlobalState). s .word) h)
-    (seen-replicate processLimit false) (ap (λ (s : GlobalState). s .channel) h) none
-    (ap (λ (s : GlobalState). s .counts) h)

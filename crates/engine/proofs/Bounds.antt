@@ -1,27 +1,22 @@
--- What a sound state says of the code's numbers: its processes and channels, the ends of its channels, the entries on
--- them and the logs' counts are within the arrays and the store, and the line that a round is for has a number.
-use Prim.Native.Nat.{ℕ, _+_, _<_, _≤_, _^_}
+-- What a sound state says of the code's numbers: its processes and channels and the ends of its channels are within the
+-- arrays, and so are the entries of a channel.
+use Prim.Native.Nat.{ℕ, _<_, _≤_}
 use mathlib.Core.Path.{_≡_, ap}
-use mathlib.Core.Bool.{true, false}
+use mathlib.Core.Bool.{true}
 use mathlib.Core.List.{List}
 use mathlib.Core.Option.{none}
 use native.Mathlib.Omega.{arith}
-use borrow.Author.Tests.{eqb-false, not-true}
 use lib.ListN.{length, getD}
 use Rattle.model.specs.declared.State.{State}
 use Rattle.model.specs.declared.Channel.{Channel}
 use Rattle.model.specs.declared.Entry.{Entry}
 use Rattle.model.specs.Topology.{processLimit, channelLimit, sender, receiver, topologyRefusal}
 use Rattle.model.specs.Channel.{channelRoom, roomLeft, entries}
-use Rattle.model.specs.Phase.{isIdle}
-use Rattle.model.specs.Layout.{present, storeCells, messagePlaces, channelPlaces, messageLog, channelLog}
-use Rattle.model.specs.State.{view, viewCounts}
-use Rattle.model.specs.Sound.{sound, lastLine, lineSound}
+use Rattle.model.specs.State.{view}
+use Rattle.model.specs.Sound.{sound}
 use Rattle.model.proofs.laws.ChannelLaws.{entries-count}
-use Rattle.model.proofs.laws.SoundLaws.{Sound, sound-facts, entries-fit}
+use Rattle.model.proofs.laws.SoundLaws.{Sound, sound-facts}
 use Rattle.model.proofs.laws.TopologyLaws.{SizesFit, accepted-sizes, sender-planned, receiver-planned}
-use Rattle.model.proofs.store.Sizes.{Sized, sized-topology}
-use Rattle.engine.proofs.Views.{channel-read}
 
 -- a channel's count is the number of its entries
 pub count-fits : (x : Channel) (es : List Entry) → es ≡ entries x → length es ≤ channelRoom → x .count ≤ channelRoom
@@ -42,15 +37,7 @@ module _ (s : State) (h : sound (view s) ≡ true) where
   pub sizes-fit : SizesFit (s .topology .processes) (s .topology .channels)
   sizes-fit = accepted-sizes (s .topology) accepted
 
-  pub sound-sized : (st : List ℕ) → storeCells ≤ length st → Sized present (s .topology) st
-  sound-sized st l = sized-topology present (s .topology) st accepted l
-
-  -- a round under way is for a line that has a number
-  pub next-line-fits : isIdle (s .round .phase) ≡ false → s .round .line < 2 ^ 32 → s .round .line + 1 < 2 ^ 32
-  unfolding view lineSound
-  next-line-fits busy l = omega (arith, eqb-false (s .round .line) lastLine (not-true _ (rw busy at (facts .line))))
-
-  -- a planned channel: its index and those of its ends, its entries, and the counts of its log and its receiver's
+  -- a planned channel: its index, and those of its ends
   module _ (c : ℕ) (l : c < s .topology .channels) where
     pub channel-bound : c < channelLimit
     channel-bound = omega (arith, sizes-fit .channels)
@@ -65,15 +52,3 @@ module _ (s : State) (h : sound (view s) ≡ true) where
 
     pub receiver-bound : getD (s .topology .to) c 0 < processLimit
     receiver-bound = omega (arith, receiver-below, sizes-fit .processes)
-
-    pub entries-bound : (x : Channel) → c < length (s .channels) → getD (s .channels) c x .count ≤ channelRoom
-    unfolding view
-    entries-bound x k = count-fits _ _ (channel-read s c k x) (entries-fit (view s) facts c l)
-
-    pub channel-log-bound : getD (s .counts .channels) c 0 ≤ channelPlaces
-    unfolding view viewCounts
-    channel-log-bound = facts .logs (channelLog c) l
-
-    pub message-log-bound : getD (s .counts .messages) (getD (s .topology .to) c 0) 0 ≤ messagePlaces
-    unfolding view viewCounts
-    message-log-bound = facts .logs (messageLog (getD (s .topology .to) c 0)) receiver-below

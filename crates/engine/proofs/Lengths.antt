@@ -14,7 +14,8 @@ use Rattle.model.proofs.laws.Functions.{length-of}
 pub record Lengths (s : State) : Type 0 where
   pub words : length (s .words) ≡ processLimit
   pub tags : length (s .tags) ≡ processLimit
-  pub channels : length (s .channels) ≡ channelLimit
+  pub places : length (s .places) ≡ channelLimit
+  pub lengths : length (s .lengths) ≡ channelLimit
   pub logical : length (s .flags .logical) ≡ processLimit
   pub closed : length (s .flags .closed) ≡ channelLimit
   pub sent : length (s .flags .sent) ≡ channelLimit
@@ -23,12 +24,13 @@ pub record Lengths (s : State) : Type 0 where
 
 pub lengths : (s : State) (v : List Val) → Is (row the-type) s v → Lengths s
 lengths s v g =
-    let flags = g .1 .1 .1 .1 .1 .1 .1 .0 in
-    let counts = g .1 .1 .1 .1 .1 .1 .1 .1 .0 in
+    let flags = g .1 .1 .1 .1 .1 .1 .1 .1 .0 in
+    let counts = g .1 .1 .1 .1 .1 .1 .1 .1 .1 .0 in
     record {
       words = length-of _ (s .words) processLimit (g .1 .1 .1 .1 .0 .1 .0 .1);
       tags = length-of _ (s .tags) processLimit (g .1 .1 .1 .1 .1 .0 .1 .0 .1);
-      channels = length-of _ (s .channels) channelLimit (g .1 .1 .1 .1 .1 .1 .0 .1 .0 .1);
+      places = length-of _ (s .places) channelLimit (g .1 .1 .1 .1 .1 .1 .0 .1 .0 .1);
+      lengths = length-of _ (s .lengths) channelLimit (g .1 .1 .1 .1 .1 .1 .1 .0 .1 .0 .1);
       logical = length-of _ (s .flags .logical) processLimit (flags .1 .1 .0 .1 .0 .1);
       closed = length-of _ (s .flags .closed) channelLimit (flags .1 .1 .1 .0 .1 .0 .1);
       sent = length-of _ (s .flags .sent) channelLimit (flags .1 .1 .1 .1 .0 .1 .0 .1);

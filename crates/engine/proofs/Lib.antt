@@ -7,6 +7,8 @@ pub mod Bounds
 pub mod Promises
 pub mod Aborting
 pub mod Clearing
+pub mod Turning
+pub mod WriteBack
 pub mod Receptions
 pub mod Attempting
 pub mod ReceiveMeets

@@ -5,12 +5,10 @@ use mathlib.Core.Path.{_≡_, refl, sym, ap, subst, _∙_}
 use mathlib.Core.Bool.{Bool, true, false, cond, not, _&&_, _||_, Bool·beq}
 use mathlib.Core.List.{List, _++_}
 use mir.Val.{boolByte}
-use lib.ListN.{length, getD, set}
+use lib.ListN.{length}
 use lib.Dec.{leb}
 use borrow.Author.Tests.{leb-false}
 use native.Mathlib.Omega.{arith}
-use Rattle.model.specs.declared.Counts.{Counts}
-use Rattle.model.specs.declared.Flags.{Flags}
 use Rattle.model.specs.declared.Receipt.{Receipt}
 use Rattle.model.specs.declared.Entry.{Entry}
 use Rattle.model.specs.declared.Entry.the-variants.{Message, Marker}
@@ -18,7 +16,7 @@ use Rattle.model.specs.Notation.{upd}
 use Rattle.model.specs.Layout.{storeCells, slot, Log, messageLog, channelLog}
 use Rattle.model.specs.Layout.{messagePlaces, channelPlaces, messageEntryCells, channelEntryCells, countCell}
 use Rattle.model.specs.Layout.{entryCell, entryFor}
-use Rattle.model.specs.State.{GlobalState, Progress, LogCounts, raised, raisedAll, viewProgress, viewCounts}
+use Rattle.model.specs.State.{GlobalState, Progress, LogCounts, raisedAll}
 use Rattle.model.specs.Change.{withWord, withTag, withChannel, withProgress, withCounts, withLogical, withClosed}
 use Rattle.model.specs.Change.{setEntries, enterMessage, logicalCheckpoint, close}
 use Rattle.model.specs.Receive.{anyFull}
@@ -27,7 +25,7 @@ use Rattle.model.specs.Write.{cellWrites, appendWrites, logWrites, logsWrites}
 use Rattle.model.specs.Step.{react}
 use Rattle.model.specs.Form as form
 use Rattle.model.proofs.laws.Tests.{true-is-not-false, or-left, or-true, or-false}
-use Rattle.model.proofs.laws.Functions.{upd-unchanged, seen-set}
+use Rattle.model.proofs.laws.Functions.{upd-unchanged}
 use Rattle.rules.specs.declared.reaction.Reaction.{Reaction}
 use Rattle.rules.specs.Reacting.{logIf, viewReaction}
 use Rattle.engine.specs.declared.receive.Setting.{Setting}
@@ -119,69 +117,6 @@ module _ (x : Reaction) (a : Setting) where
         below =
             second (x .«message_log») (x .«channel_log» && leb channelPlaces (a .«in_channel»)) messagePlaces _ e
             (sym full-test ∙ roomy)
-
--- the counts after it
-abbrev pub counted : Counts → ℕ → ℕ → Bool → Bool → Counts
-counted n c p a b =
-    record {
-      messages = set (n .messages) p (getD (n .messages) p 0 + boolByte b);
-      channels = set (n .channels) c (getD (n .channels) c 0 + boolByte a);
-    }
-
-module _ (n : Counts) (c p : ℕ) (inChannels : c < length (n .channels)) (inMessages : p < length (n .messages)) where
-  abbrev raisedIf : Bool → List ℕ → ℕ → ℕ → ℕ
-  raisedIf t l i = cond t (upd (λ j. getD l j 0) i (getD l i 0 + 1)) (λ j. getD l j 0)
-
-  more : (l : List ℕ) (i : ℕ) → i < length l → (t : Bool)
-      → _≡_ {A = ℕ → ℕ} (λ j. getD (set l i (getD l i 0 + boolByte t)) j 0) (raisedIf t l i)
-  more l i h true = seen-set (λ v. v) l i (getD l i 0 + 1) 0 h
-  more l i h false = seen-set (λ v. v) l i (getD l i 0 + 0) 0 h ∙ same-there
-    where
-      e : getD l i 0 + 0 ≡ getD l i 0
-      e = omega arith
-
-      same-there : upd (λ j. getD l j 0) i (getD l i 0 + 0) ≡ (λ j. getD l j 0)
-      same-there = rw e (upd-unchanged (λ j. getD l j 0) i)
-
-  abbrev both : (a b : Bool)
-      → _≡_ {A = LogCounts}
-      (record {
-        messages = λ j. getD (counted n c p a b .messages) j 0;
-        channels = λ j. getD (counted n c p a b .channels) j 0;
-      })
-      (record {
-        messages = raisedIf b (n .messages) p;
-        channels = raisedIf a (n .channels) c;
-      })
-  both a b =
-      λ i. record { messages = more (n .messages) p inMessages b i; channels = more (n .channels) c inChannels a i }
-
-  pub counts-raised : (a b : Bool)
-      → viewCounts (counted n c p a b) ≡ raisedAll (logIf a (channelLog c) ++ logIf b (messageLog p)) (viewCounts n)
-  unfolding viewCounts raisedAll raised
-  counts-raised true true = both true true
-  counts-raised true false = both true false
-  counts-raised false true = both false true
-  counts-raised false false = both false false
-
--- the flags after it
-abbrev pub flagged : Flags → ℕ → ℕ → Bool → Bool → Flags
-flagged f c r first closes =
-    record {
-      logical = set (f .logical) r (getD (f .logical) r false || first);
-      closed = set (f .closed) c (getD (f .closed) c false || closes);
-      sent = f .sent;
-    }
-
-pub flags-raised : (f : Flags) (c r : ℕ) → c < length (f .closed) → r < length (f .logical) → (first closes : Bool)
-    → viewProgress (flagged f c r first closes) ≡ progressAfter first closes c r (viewProgress f)
-unfolding viewProgress progressAfter
-flags-raised f c r inClosed inLogical first closes =
-    λ i. record {
-      logical = seen-set (λ t. t) (f .logical) r (getD (f .logical) r false || first) false inLogical i;
-      closed = seen-set (λ t. t) (f .closed) c (getD (f .closed) c false || closes) false inClosed i;
-      sent = λ d. getD (f .sent) d false;
-    }
 
 -- a flag raised, and a tag turned over, where that is so
 flag-after : (f : ℕ → Bool) (i : ℕ) (t : Bool) → cond t (upd f i true) f ≡ upd f i (f i || t)

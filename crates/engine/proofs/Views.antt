@@ -1,16 +1,16 @@
 -- How a state of the code is seen: a channel as the code reads it, and the state after one of its arrays was changed.
 -- Two states are equal part by part.
 use Prim.Native.Nat.{ℕ, _<_}
-use mathlib.Core.Path.{_≡_, refl, ap}
-use mathlib.Core.Bool.{true, false, not}
+use mathlib.Core.Path.{_≡_, refl, sym, ap, _∙_}
 use lib.ListN.{length, getD, set}
 use Rattle.model.specs.declared.State.{State}
 use Rattle.model.specs.declared.Channel.{Channel}
-use Rattle.model.specs.Channel.{entries}
-use Rattle.model.specs.Change.{withTag, withChannel, withProgress, withLogical, withSent, setEntries, logicalCheckpoint}
-use Rattle.model.specs.Change.{recordSent}
-use Rattle.model.specs.State.{GlobalState, emptyChannel, viewProgress, view}
-use Rattle.model.proofs.laws.Functions.{getD-within, seen-set}
+use Rattle.model.specs.declared.Places.{Places}
+use Rattle.model.specs.Notation.{upd}
+use Rattle.model.specs.Channel.{held, placesOf, entries}
+use Rattle.model.specs.Change.{withChannel, setEntries}
+use Rattle.model.specs.State.{GlobalState, noPlaces, entriesIn, view}
+use Rattle.model.proofs.laws.Functions.{getD-within, seen-set-both}
 
 -- two states that agree in every part
 pub same-state : {a b : GlobalState} → a .topology ≡ b .topology → a .round ≡ b .round → a .word ≡ b .word
@@ -18,71 +18,37 @@ pub same-state : {a b : GlobalState} → a .topology ≡ b .topology → a .roun
 same-state t r w g c p n =
     λ i. record { topology = t i; round = r i; word = w i; tag = g i; channel = c i; progress = p i; counts = n i }
 
-module _ (s : State) (c : ℕ) (within : c < length (s .channels)) where
+module _ (s : State) (c : ℕ) (in-places : c < length (s .places)) where
   -- a channel, as the code reads it
-  pub channel-read : (d : Channel) → view s .channel c ≡ entries (getD (s .channels) c d)
+  pub channel-read : (d : Places) {x : Channel} → x ≡ held (getD (s .places) c d) (getD (s .lengths) c 0)
+      → view s .channel c ≡ entries x
   unfolding view
-  channel-read d = ap entries (getD-within (s .channels) c emptyChannel d within)
+  channel-read d e =
+      ap (λ (p : Places). entries (held p (getD (s .lengths) c 0))) (getD-within (s .places) c noPlaces d in-places)
+      ∙ ap entries (sym e)
 
-  -- a state with one channel exchanged
-  pub channel-set : (x : Channel)
-      → view
-      (record {
-        topology = s .topology;
-        round = s .round;
-        words = s .words;
-        tags = s .tags;
-        channels = set (s .channels) c x;
-        flags = s .flags;
-        counts = s .counts;
-      })
-      ≡ setEntries c (entries x) (view s)
-  unfolding view setEntries withChannel
-  channel-set x = same-state refl refl refl refl (seen-set entries (s .channels) c x emptyChannel within) refl refl
+  -- the channels with one exchanged for x
+  module _ (in-lengths : c < length (s .lengths)) (x : Channel) (places : Places) (e : places ≡ placesOf x) where
+    pub channels-set : entriesIn (set (s .places) c places) (set (s .lengths) c (x .count))
+        ≡ upd (view s .channel) c (entries x)
+    unfolding view
+    channels-set =
+        seen-set-both (λ (p : Places) (n : ℕ). entries (held p n)) (s .places) (s .lengths) c places noPlaces (x .count)
+        0 in-places in-lengths
+        ∙ ap (λ (p : Places). upd (view s .channel) c (entries (held p (x .count)))) e
 
-  -- and its marker recorded as sent
-  pub marker-set : c < length (s .flags .sent) → (x : Channel)
-      → view
-      (record {
-        topology = s .topology;
-        round = s .round;
-        words = s .words;
-        tags = s .tags;
-        channels = set (s .channels) c x;
-        flags =
-            record { logical = s .flags .logical; closed = s .flags .closed; sent = set (s .flags .sent) c true };
-        counts = s .counts;
-      })
-      ≡ recordSent c (setEntries c (entries x) (view s))
-  unfolding view viewProgress recordSent setEntries withChannel withProgress withSent
-  marker-set k x =
-      same-state refl refl refl refl (seen-set entries (s .channels) c x emptyChannel within)
-      (λ i. record {
-        logical = λ p. getD (s .flags .logical) p false;
-        closed = λ d. getD (s .flags .closed) d false;
-        sent = seen-set (λ t. t) (s .flags .sent) c true false k i;
-      })
-      refl
-
--- a state with the logical checkpoint of one process
-pub logical-set : (s : State) (p : ℕ) → p < length (s .tags) → p < length (s .flags .logical)
-    → view
-    (record {
-      topology = s .topology;
-      round = s .round;
-      words = s .words;
-      tags = set (s .tags) p (not (getD (s .tags) p false));
-      channels = s .channels;
-      flags = record { logical = set (s .flags .logical) p true; closed = s .flags .closed; sent = s .flags .sent };
-      counts = s .counts;
-    })
-    ≡ logicalCheckpoint p (view s)
-unfolding view viewProgress logicalCheckpoint withTag withProgress withLogical
-logical-set s p h k =
-    same-state refl refl refl (seen-set (λ t. t) (s .tags) p (not (getD (s .tags) p false)) false h) refl
-    (λ i. record {
-      logical = seen-set (λ t. t) (s .flags .logical) p true false k i;
-      closed = λ c. getD (s .flags .closed) c false;
-      sent = λ c. getD (s .flags .sent) c false;
-    })
-    refl
+    -- and the state with it
+    pub channel-set : view
+        (record {
+          topology = s .topology;
+          round = s .round;
+          words = s .words;
+          tags = s .tags;
+          places = set (s .places) c places;
+          lengths = set (s .lengths) c (x .count);
+          flags = s .flags;
+          counts = s .counts;
+        })
+        ≡ setEntries c (entries x) (view s)
+    unfolding view setEntries withChannel
+    channel-set = same-state refl refl refl refl channels-set refl refl

@@ -75,10 +75,6 @@ unfoldable pub unlessRefused : Option ℕ → GlobalState → Result → Result
 unlessRefused none s r = r
 unlessRefused (some n) s r = quietly (refused n) s
 
--- what a receive answers, with this state
-abbrev pub answeredWith : Reception → State → Answer
-answeredWith came s = record { outcome = came .outcome; made = came .made; state = s }
-
 -- The promise of an attempt: outcome, writes and store are those of a receive of the entry e, whatever the states
 -- before and after it; and where it comes off, nothing turned it down.
 pub record Attempts (x : Reaction) (a : Setting) (e : Entry) (line : ℕ) (before : List ℕ) (budget : ℕ) (r : Reception)

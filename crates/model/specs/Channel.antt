@@ -6,6 +6,7 @@ use mathlib.Core.List.{List, [], _∷_, map}
 use lib.ListN.{getD, length}
 use lib.Dec.{eqb}
 use Rattle.model.specs.declared.Channel.{Channel}
+use Rattle.model.specs.declared.Places.{Places}
 use Rattle.model.specs.declared.Entry.{Entry}
 use Rattle.model.specs.declared.Entry.the-variants.{Message, Marker}
 use Rattle.model.specs.declared.Receipt.{Receipt}
@@ -15,6 +16,13 @@ use Rattle.model.specs.Word.{receipt}
 -- "holds at most 8 entries"
 abbrev pub channelRoom : ℕ
 channelRoom = 8
+
+-- the channel that these places hold, of which n are used; and a channel's places
+abbrev pub held : Places → ℕ → Channel
+held places n = record { bodies = places .bodies; kinds = places .kinds; count = n }
+
+abbrev pub placesOf : Channel → Places
+placesOf c = record { bodies = c .bodies; kinds = c .kinds }
 
 -- what a place's kind and body mean: kind 0 and 1 a message with that tag, any other kind a marker
 unfoldable pub entryOf : ℕ → ℕ → Entry

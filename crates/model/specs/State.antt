@@ -10,10 +10,11 @@ use Rattle.model.specs.declared.Round.{Round}
 use Rattle.model.specs.declared.Phase.the-variants.{Idle}
 use Rattle.model.specs.declared.Topology.{Topology}
 use Rattle.model.specs.declared.Channel.{Channel}
+use Rattle.model.specs.declared.Places.{Places}
 use Rattle.model.specs.declared.Entry.{Entry}
 use Rattle.model.specs.Notation.{upd}
 use Rattle.model.specs.Topology.{channelLimit}
-use Rattle.model.specs.Channel.{channelRoom, entries}
+use Rattle.model.specs.Channel.{channelRoom, held, entries}
 use Rattle.model.specs.Layout.{Log, messageLog, channelLog}
 
 -- what the round under way has done: processes that have their logical checkpoint (marked boards), closed wires, wires
@@ -94,9 +95,16 @@ viewProgress f =
 unfoldable pub viewCounts : Counts → LogCounts
 viewCounts n = record { messages = λ p. getD (n .messages) p 0; channels = λ c. getD (n .channels) c 0 }
 
--- a channel with no entry, for an index past the array
-unfoldable pub emptyChannel : Channel
-emptyChannel = record { bodies = replicate channelRoom 0; kinds = replicate channelRoom 0; count = 0 }
+-- places with nothing in them, for an index past the array; and a channel with no entry
+unfoldable pub noPlaces : Places
+noPlaces = record { bodies = replicate channelRoom 0; kinds = replicate channelRoom 0 }
+
+abbrev pub emptyChannel : Channel
+emptyChannel = held noPlaces 0
+
+-- the entries of channel c, by the arrays of places and lengths
+abbrev pub entriesIn : List Places → List ℕ → ℕ → List Entry
+entriesIn places lengths c = entries (held (getD places c noPlaces) (getD lengths c 0))
 
 -- How a state of the code is seen. Nothing is hidden but the unused places of channels, and by which of the kinds over
 -- 1, and beside which body, a marker is written (Channel.entryOf).
@@ -107,7 +115,7 @@ view s =
       round = s .round;
       word = λ p. getD (s .words) p 0;
       tag = λ p. getD (s .tags) p false;
-      channel = λ c. entries (getD (s .channels) c emptyChannel);
+      channel = entriesIn (s .places) (s .lengths);
       progress = viewProgress (s .flags);
       counts = viewCounts (s .counts);
     }

@@ -37,7 +37,14 @@ pub enum Entry {
 }
 
 // A channel's 8 places, first in first out from place 0. Kind 0 is a message tagged 0, kind 1 a message tagged 1,
-// and any other kind a marker. Places from count on are unused.
+// and any other kind a marker.
+pub struct Places {
+    pub bodies: [u32; CHANNEL_ROOM],
+    pub kinds: [u8; CHANNEL_ROOM],
+}
+
+// A channel by value: its places, and how many are used. Places from count on are unused. (A state has its channels'
+// counts in an array of their own, since every step looks through them.)
 pub struct Channel {
     pub bodies: [u32; CHANNEL_ROOM],
     pub kinds: [u8; CHANNEL_ROOM],
@@ -70,7 +77,8 @@ pub struct State {
     pub round: Round,
     pub words: [u32; PROCESSES],
     pub tags: [bool; PROCESSES],
-    pub channels: [Channel; CHANNELS],
+    pub places: [Places; CHANNELS],
+    pub lengths: [u8; CHANNELS],
     pub flags: Flags,
     pub counts: Counts,
 }

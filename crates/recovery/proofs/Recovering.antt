@@ -6,15 +6,15 @@ use mathlib.Core.Bool.{false}
 use mathlib.Core.List.{List, []}
 use mathlib.Core.Option.{Option, none, some}
 use lib.ListN.{getD, replicate}
-use Rattle.model.specs.declared.Channel.{Channel}
+use Rattle.model.specs.declared.Places.{Places}
 use Rattle.model.specs.declared.Entry.{Entry}
 use Rattle.model.specs.declared.Started.{Started}
 use Rattle.model.specs.declared.Topology.{Topology}
 use Rattle.model.specs.Notation.{tabulate}
 use Rattle.model.specs.Topology.{processLimit, channelLimit, hasProcess, hasChannel}
-use Rattle.model.specs.Channel.{entries, messages}
+use Rattle.model.specs.Channel.{held, entries, messages}
 use Rattle.model.specs.Layout.{logged}
-use Rattle.model.specs.State.{GlobalState, view, idleState, blankState, emptyChannel}
+use Rattle.model.specs.State.{GlobalState, view, idleState, blankState, noPlaces, entriesIn}
 use Rattle.model.specs.Outcome.{startRefusal}
 use Rattle.model.specs.Start.{startupOr, storedLine, restored}
 use Rattle.model.specs.Start.{recoveredWord, recoveredChannel}
@@ -35,18 +35,16 @@ module _ (s : GlobalState) (after before : List ℕ) (r : Started) where
   starts-refused n e a v = rw e (record { start = a; state = v; store = refl })
 
 -- arrays of empty channels and of 0
-pub no-entries : (e : Channel) → e ≡ emptyChannel
-    → _≡_ {A = ℕ → List Entry} (λ c. entries (getD (replicate channelLimit e) c emptyChannel)) (λ c. [])
-unfolding entries emptyChannel tabulate
-no-entries e q =
-    ap (λ (x : Channel). λ (c : ℕ). entries (getD (replicate channelLimit x) c emptyChannel)) q
-    ∙ fun-ext (λ c. ap (λ (f : ℕ → Channel). entries (f c)) (seen-replicate channelLimit emptyChannel))
+pub no-entries : (places : List Places)
+    → _≡_ {A = ℕ → List Entry} (entriesIn places (replicate channelLimit 0)) (λ c. [])
+unfolding entries tabulate
+no-entries places =
+    ap (λ (n : ℕ → ℕ). λ (c : ℕ). entries (held (getD places c noPlaces) (n c))) (seen-replicate channelLimit 0)
 
-pub initial-state : (T : Topology) (e : Channel) → e ≡ emptyChannel
-    → idleState T 0 (λ p. getD (replicate processLimit 0) p 0)
-    (λ c. entries (getD (replicate channelLimit e) c emptyChannel))
+pub initial-state : (T : Topology) (places : List Places)
+    → idleState T 0 (λ p. getD (replicate processLimit 0) p 0) (entriesIn places (replicate channelLimit 0))
     ≡ idleState T 0 (λ p. 0) (λ c. [])
-initial-state T e q = ap₂ (idleState T 0) (seen-replicate processLimit 0) (no-entries e q)
+initial-state T places = ap₂ (idleState T 0) (seen-replicate processLimit 0) (no-entries places)
 
 -- what recover makes of one process and of one channel
 abbrev pub wordOf : List ℕ → ℕ → ℕ

@@ -5,14 +5,11 @@ use Prim.Native.Nat.{ℕ, _+_, _*_, _<_}
 use mathlib.Core.Path.{_≡_}
 use mathlib.Core.List.{List, map}
 use lib.ListN.{length, getD}
-use Rattle.model.specs.declared.Channel.{Channel}
-use Rattle.model.specs.declared.Entry.{Entry}
 use Rattle.model.specs.declared.Receipt.{Receipt}
 use Rattle.model.specs.declared.Started.{Started}
 use Rattle.model.specs.Outcome.{startRefusal}
-use Rattle.model.specs.Channel.{entries}
 use Rattle.model.specs.Layout.{cell, messageEntryCells, channelEntryCells, entriesFrom, receiptIn, bodyIn}
-use Rattle.model.specs.State.{view, emptyChannel}
+use Rattle.model.specs.State.{view}
 use Rattle.model.specs.Start.{Startup}
 
 pub record Starts (b : Startup) (r : Started) (after : List ℕ) : Type 0 where
@@ -20,12 +17,9 @@ pub record Starts (b : Startup) (r : Started) (after : List ℕ) : Type 0 where
   pub state : view (r .state) ≡ b .state
   pub store : after ≡ b .store
 
--- how arrays of words and of channels are seen
+-- how an array of words is seen
 abbrev pub wordsSeen : List ℕ → ℕ → ℕ
 wordsSeen words = λ p. getD words p 0
-
-abbrev pub channelsSeen : List Channel → ℕ → List Entry
-channelsSeen channels = λ c. entries (getD channels c emptyChannel)
 
 -- the log whose count stands in the cell at, with w cells for an entry, ends within the store
 abbrev pub Ends : ℕ → List ℕ → ℕ → Type 0

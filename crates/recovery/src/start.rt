@@ -2,9 +2,9 @@
 // state, and how a refusal is answered.
 use crate::log;
 use model::CHANNELS;
-use model::Channel;
 use model::PROCESSES;
 use model::Phase;
+use model::Places;
 use model::Refusal;
 use model::Round;
 use model::Start;
@@ -22,19 +22,26 @@ ghost use mathlib.Core.List.{[]};
 ghost use mathlib.Core.Option.{none, some};
 ghost use lib.ListN.{length};
 ghost use Rattle.model.specs.Outcome.{refusalNumber, refusalOf, startRefusal};
-ghost use Rattle.model.specs.State.{view, idleState, blankState};
+ghost use Rattle.model.specs.State.{view, idleState, blankState, entriesIn};
 ghost use Rattle.model.specs.Start.{initializeRefusal, recover, recoverRefusal, recoveredWord, recoveredChannel};
 ghost use Rattle.model.specs.Start.{countsFit};
-ghost use Rattle.recovery.specs.Starts.{Starts, wordsSeen, channelsSeen};
+ghost use Rattle.recovery.specs.Starts.{Starts, wordsSeen};
+
+// The channels of a state, filled: their places, and how many of each are used.
+struct Filled {
+    places: [Places; CHANNELS],
+    lengths: [u8; CHANNELS],
+}
 
 // An idle state at a line: no progress, no log counts, tags 0.
 fn idle(
     topology: Topology,
     line: u32,
     words: [u32; PROCESSES],
-    channels: [Channel; CHANNELS],
+    places: [Places; CHANNELS],
+    lengths: [u8; CHANNELS],
 ) -> State
-    ensures { λ r. ⌜ view r ≡ idleState topology line (wordsSeen words) (channelsSeen channels) ⌝ }
+    ensures { λ r. ⌜ view r ≡ idleState topology line (wordsSeen words) (entriesIn places lengths) ⌝ }
 {
     let round = Round {
         line,
@@ -47,7 +54,8 @@ fn idle(
         round,
         words,
         tags: [false; PROCESSES],
-        channels,
+        places,
+        lengths,
         flags,
         counts,
     }
@@ -57,8 +65,14 @@ fn idle(
 pub fn initial(topology: Topology) -> State
     ensures { λ r. ⌜ view r ≡ idleState topology 0 (λ p. 0) (λ c. []) ⌝ }
 {
-    let empty = channel::empty();
-    idle(topology, 0, [0; PROCESSES], [empty; CHANNELS])
+    let blank = channel::blank();
+    idle(
+        topology,
+        0,
+        [0; PROCESSES],
+        [blank; CHANNELS],
+        [0; CHANNELS],
+    )
 }
 
 // A refusal, with the blank state: no process, no channel.
@@ -153,19 +167,23 @@ fn words(topology: Topology, store: &[u32]) -> [u32; PROCESSES]
 }
 
 // The channels, filled from their logs.
-fn channels(topology: Topology, store: &[u32]) -> [Channel; CHANNELS]
+fn channels(topology: Topology, store: &[u32]) -> Filled
     requires { ⌜ recoverRefusal topology (now store) ≡ none ⌝ }
-    ensures { λ r. ⌜ channelsSeen r ≡ recoveredChannel topology (now (store .entry)) ⌝ }
+    ensures { λ r. ⌜ entriesIn (r .places) (r .lengths) ≡ recoveredChannel topology (now (store .entry)) ⌝ }
 {
     let line = store[layout::LINE_CELL];
-    let empty = channel::empty();
-    let mut r = [empty; CHANNELS];
+    let blank = channel::blank();
+    let mut places = [blank; CHANNELS];
+    let mut lengths = [0; CHANNELS];
     let mut c: u8 = 0;
     while c < topology.channels {
-        r[c as usize] = log::fill(store, layout::channel_count_cell(line, c));
+        let at = c as usize;
+        let held = log::fill(store, layout::channel_count_cell(line, c));
+        places[at] = channel::places(held);
+        lengths[at] = held.count;
         c += 1;
     }
-    r
+    Filled { places, lengths }
 }
 
 // Document 01's restart: it only reads. Of any topology and any store.
@@ -175,8 +193,16 @@ pub fn recover(topology: Topology, store: &[u32]) -> Started
     match admit_store(topology, store) {
         Verdict::Pass => {
             let words = words(topology, store);
-            let channels = channels(topology, store);
-            let state = idle(topology, store[layout::LINE_CELL], words, channels);
+            let filled = channels(topology, store);
+            let places = filled.places;
+            let lengths = filled.lengths;
+            let state = idle(
+                topology,
+                store[layout::LINE_CELL],
+                words,
+                places,
+                lengths,
+            );
             Started {
                 start: Start::Ready,
                 state,

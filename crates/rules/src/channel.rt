@@ -1,22 +1,49 @@
 // A channel (document 01's wire) by value: what a place holds, how much room is left, and a channel with no entry.
 use model::Channel;
 use model::Entry;
+use model::Places;
 ghost use mathlib.Core.Path.{_≡_};
-ghost use Rattle.model.specs.Channel.{entryOf, entryAt, entries, roomLeft};
-ghost use Rattle.model.specs.State.{emptyChannel};
+ghost use Rattle.model.specs.Channel.{held, placesOf, entryOf, entryAt, entries, roomLeft};
+ghost use Rattle.model.specs.State.{noPlaces, emptyChannel};
 
 // How many entries a channel has room for, as a count.
 pub const ROOM: u8 = model::CHANNEL_ROOM as u8;
 
-// A channel with no entry.
+// Places with nothing in them, and a channel with no entry.
+pub fn blank() -> Places
+    ensures { λ r. ⌜ r ≡ noPlaces ⌝ }
+{
+    Places {
+        bodies: [0; model::CHANNEL_ROOM],
+        kinds: [0; model::CHANNEL_ROOM],
+    }
+}
+
 pub fn empty() -> Channel
     ensures { λ r. ⌜ r ≡ emptyChannel ⌝ }
 {
+    held(blank(), 0)
+}
+
+// The channel that places hold, of which so many are used; and a channel's places.
+pub fn held(places: Places, count: u8) -> Channel
+    ensures { λ r. ⌜ r ≡ held places count ⌝ }
+{
+    let bodies = places.bodies;
+    let kinds = places.kinds;
     Channel {
-        bodies: [0; model::CHANNEL_ROOM],
-        kinds: [0; model::CHANNEL_ROOM],
-        count: 0,
+        bodies,
+        kinds,
+        count,
     }
+}
+
+pub fn places(c: Channel) -> Places
+    ensures { λ r. ⌜ r ≡ placesOf c ⌝ }
+{
+    let bodies = c.bodies;
+    let kinds = c.kinds;
+    Places { bodies, kinds }
 }
 
 // What a place's kind and body mean.

@@ -48,7 +48,7 @@ fn line_sound(round: Round) -> bool
     phase::is_idle(phase) || round.line != phase::LAST_LINE
 }
 
-// Whether a state, any whatever, is sound. The tests stand in the order of the definition's clauses.
+// Whether a state, any whatever, is sound: each clause of the definition by itself, none of them left early.
 pub fn sound(s: State) -> bool
     ensures { λ r. ⌜ r ≡ sound (view s) ⌝ }
 {
@@ -56,22 +56,12 @@ pub fn sound(s: State) -> bool
     if !topology::passes(t) {
         return false;
     }
-    let mut c: usize = 0;
-    while c < t.channels as usize {
-        let channel = s.channels[c];
-        if channel::ROOM < channel.count {
-            return false;
-        }
-        c += 1;
-    }
+    let lengths = s.lengths;
     let counts = s.counts;
-    if !at_most(&counts.messages, t.processes, layout::MESSAGE_PLACES) {
-        return false;
-    }
-    if !at_most(&counts.channels, t.channels, layout::CHANNEL_PLACES) {
-        return false;
-    }
     let round = s.round;
     let phase = round.phase;
-    phase_sound(t, phase) && line_sound(round)
+    let channels = at_most(&lengths, t.channels, channel::ROOM);
+    let messages = at_most(&counts.messages, t.processes, layout::MESSAGE_PLACES);
+    let logs = at_most(&counts.channels, t.channels, layout::CHANNEL_PLACES);
+    channels & messages & logs & phase_sound(t, phase) & line_sound(round)
 }

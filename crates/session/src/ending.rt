@@ -1,12 +1,12 @@
 // The lines after the last request: each process with its word, and each channel with its messages.
 use model::CHANNELS;
-use model::Channel;
 use model::PROCESSES;
+use model::Places;
+use rules::channel;
 ghost use Prim.Native.Nat.{_*_, _≤_};
 ghost use lib.ListN.{getD};
 ghost use Rattle.model.specs.Topology.{processLimit, channelLimit};
-ghost use Rattle.model.specs.Channel.{entries};
-ghost use Rattle.model.specs.State.{emptyChannel};
+ghost use Rattle.model.specs.State.{entriesIn};
 ghost use Rattle.report.specs.Appends.{Appends};
 ghost use Rattle.report.specs.TextBytes.{processBytes, channelBytes};
 ghost use Rattle.session.specs.Output.{processesText, channelsText};
@@ -27,16 +27,24 @@ pub fn processes(n: u8, words: [u32; PROCESSES], out: &mut [u8], at: usize) -> u
 }
 
 // The first n channels.
-pub fn channels(n: u8, channels: [Channel; CHANNELS], out: &mut [u8], at: usize) -> usize
+pub fn channels(
+    n: u8,
+    places: [Places; CHANNELS],
+    lengths: [u8; CHANNELS],
+    out: &mut [u8],
+    at: usize,
+) -> usize
     requires { ⌜ n ≤ channelLimit ⌝ }
     ensures { λ r. ⌜ Appends (channelLimit * channelBytes) (now (out .entry)) at
-        (channelsText n (λ c. entries (getD channels c emptyChannel))) (now (out .exit)) r ⌝ }
+        (channelsText n (entriesIn places lengths)) (now (out .exit)) r ⌝ }
 {
     let mut next = at;
     let mut c: u8 = 0;
     while c < n {
-        let channel = channels[c as usize];
-        next = report::channel_line(out, next, c as u32, channel);
+        let i = c as usize;
+        let here = places[i];
+        let held = channel::held(here, lengths[i]);
+        next = report::channel_line(out, next, c as u32, held);
         c += 1;
     }
     next

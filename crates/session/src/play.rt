@@ -30,8 +30,9 @@ fn run(
     let last = turn.state;
     let words = last.words;
     let at = ending::processes(topology.processes, words, out, turn.at);
-    let channels = last.channels;
-    ending::channels(topology.channels, channels, out, at)
+    let places = last.places;
+    let lengths = last.lengths;
+    ending::channels(topology.channels, places, lengths, out, at)
 }
 
 pub fn play(source: BudgetSource, input: &[u8], store: &mut [u32], out: &mut [u8]) -> usize

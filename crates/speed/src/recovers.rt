@@ -17,7 +17,7 @@ pub fn run(topology: Topology, times: u32, bytes: &[u8]) -> u32 {
         i += 1;
         let again = recovery::recover(topology, &store);
         state = again.state;
-        let last = state.channels[63];
+        let last = state.places[63];
         sum = fold(fold(sum, state.words[0]), last.bodies[7]);
     }
     whole_sum(sum, state, &store)

@@ -2,6 +2,7 @@
 use model::Outcome;
 use model::Record;
 use model::Step;
+use rules::channel;
 
 pub fn fold(sum: u32, value: u32) -> u32 {
     std::num::wrapping_add_u32(rules::word::product(sum), value)
@@ -58,11 +59,13 @@ pub fn cell_sum(sum: u32, cells: &[u32]) -> u32 {
 pub fn whole_sum(sum: u32, s: model::State, store: &[u32]) -> u32 {
     let round = s.round;
     let words = s.words;
-    let channels = s.channels;
+    let places = s.places;
+    let lengths = s.lengths;
     let mut r = cell_sum(fold(sum, round.line), &words);
     let mut c: usize = 0;
     while c < 64 {
-        r = channel_sum(r, channels[c]);
+        let here = places[c];
+        r = channel_sum(r, channel::held(here, lengths[c]));
         c += 1;
     }
     cell_sum(r, store)

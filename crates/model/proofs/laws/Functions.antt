@@ -73,6 +73,24 @@ seen-set {A} {B} f l at x d h = fun-ext (λ i. go i (indices at i))
     go i (other n) =
         ap f (getD-set-other l at i x d (λ e. n (sym e))) ∙ sym (upd-other (λ (j : ℕ). f (getD l j d)) at i (f x) n)
 
+-- what f sees of two lists, after a write into each at one place
+pub seen-set-both : {A B C : Type 0} (f : A → B → C) (l : List A) (m : List B) (at : ℕ) (x d : A) (y e : B)
+    → at < length l → at < length m
+    → (λ (i : ℕ). f (getD (set l at x) i d) (getD (set m at y) i e))
+    ≡ upd (λ (i : ℕ). f (getD l i d) (getD m i e)) at (f x y)
+seen-set-both {A} {B} {C} f l m at x d y e h k = fun-ext (λ i. go i (indices at i))
+  where
+    before : ℕ → C
+    before i = f (getD l i d) (getD m i e)
+
+    go : (i : ℕ) → Indices at i → f (getD (set l at x) i d) (getD (set m at y) i e) ≡ upd before at (f x y) i
+    go i (same q) =
+        ap (λ (j : ℕ). f (getD (set l at x) j d) (getD (set m at y) j e)) (sym q)
+        ∙ ap₂ f (getD-set-same l at x d h) (getD-set-same m at y e k) ∙ sym (upd-at before at i (f x y) q)
+    go i (other n) =
+        ap₂ f (getD-set-other l at i x d (λ q. n (sym q))) (getD-set-other m at i y e (λ q. n (sym q)))
+        ∙ sym (upd-other before at i (f x y) n)
+
 -- a list of one value, read with that value as the default
 pub seen-replicate : {A : Type 0} (n : ℕ) (x : A) → _≡_ {A = ℕ → A} (λ i. getD (replicate n x) i x) (λ i. x)
 seen-replicate n x = fun-ext (λ i. go i (test (ltb i n)))
@@ -113,3 +131,10 @@ pub filled-more : {A B : Type 0} (f : A → B) (l : List A) (d x : A) (n : ℕ) 
     → (λ (i : ℕ). f (getD (set l n x) i d)) ≡ filledBelow (n + 1) g z
 filled-more f l d x n g z h e q =
     seen-set f l n x d h ∙ ap₂ (λ (s : ℕ → _) (y : _). upd s n y) e q ∙ filled-next n g z
+
+-- and of two arrays that are seen together
+pub filled-both : {A B C : Type 0} (f : A → B → C) (l : List A) (m : List B) (d x : A) (e y : B) (n : ℕ) (g : ℕ → C)
+    (z : C) → n < length l → n < length m → (λ (i : ℕ). f (getD l i d) (getD m i e)) ≡ filledBelow n g z → f x y ≡ g n
+    → (λ (i : ℕ). f (getD (set l n x) i d) (getD (set m n y) i e)) ≡ filledBelow (n + 1) g z
+filled-both f l m d x e y n g z h k is q =
+    seen-set-both f l m n x d y e h k ∙ ap₂ (λ (s : ℕ → _) (v : _). upd s n v) is q ∙ filled-next n g z

@@ -7,17 +7,18 @@ use Rattle.model.specs.Layout.{present, messageLog, channelLog}
 use Rattle.model.proofs.store.Sizes.{Sized}
 use Rattle.model.proofs.store.Addresses.{in-store, count-within, message-cell, channel-cell}
 use Rattle.model.specs.Write.{clearWrites}
+use Rattle.engine.specs.Spots as spots
 use Rattle.engine.proofs.Clearing.{messages-cleared, channels-cleared}
 use Rattle.engine.proofs.Stores.{spent-then, spent-length}
 use Rattle.engine.proofs.begin.clear.Statement.{statement}
 use Rattle.engine.proofs.begin.clear.Tie as tie
 
-sized : (c : tie.Start) → Sized present (c .args .t) (now (c .args .store))
+sized : (c : tie.Start) → Sized present (spots.sized (c .args .processes) (c .args .channels)) (now (c .args .store))
 sized c = record { processes = c .pre .0; channels = c .pre .1; cells = c .pre .2 }
 
 zeros-requires : tie.Need-zeros-requires
 zeros-requires c κs = λ (i : ℕ) l.
-    let f = c .before .before in
+    let f = c .before in
     let b = f .before .before in
     omega (
       arith,
@@ -28,11 +29,11 @@ zeros-requires c κs = λ (i : ℕ) l.
 
 -- past the first run
 abbrev start : tie.After-zeros → tie.Start
-start c = c .before .before .before .before .before
+start c = c .before .before .before .before
 
 zeros-requires-2 : tie.Need-zeros-requires-2
 zeros-requires-2 c κs = λ (i : ℕ) l.
-    let f = c .before .before in
+    let f = c .before in
     let z = f .before .before .before in
     let b = start z in
     omega (
@@ -47,23 +48,21 @@ returns : tie.Need-returns
 unfolding clearWrites
 returns c =
     let y = c .before .before in
-    let f = y .before .before .before in
+    let f = y .before .before in
     let z = f .before .before .before in
     let a = start z .args in
     spent-then
-    (messages-cleared (a .line) (a .t .processes) (z .before .before .before .message-count-cell .ensures)
+    (messages-cleared (a .line) (a .processes) (z .before .before .message-count-cell .ensures)
     (z .zeros .ensures))
-    (channels-cleared (a .line) (a .t .channels) (f .channel-count-cell .ensures) (y .zeros2 .ensures))
+    (channels-cleared (a .line) (a .channels) (f .channel-count-cell .ensures) (y .zeros2 .ensures))
 
 pub clear-spec : {M : Type 1} → statement M
 clear-spec =
     tie.close
     (tie.spec
     (λ c κs. search needs)
-    (λ c. search needs)
     zeros-requires
     (λ c κs. search needs)
-    (λ c. search needs)
     zeros-requires-2
     (λ c. search needs)
     returns)

@@ -1,124 +1,113 @@
 -- `engine::commit::commit` meets its contract: refused where the round is not through, else the next line's number is
 -- written and the round ends.
-use mathlib.Core.Path.{_≡_, sym, refl, _∙_}
-use mathlib.Core.Bool.{true, false}
-use mathlib.Core.Option.{none, some}
-use native.Mathlib.Omega.{arith}
 use borrow.Author.Needs.{needs}
 use borrow.Author.Tests.{not-true, not-false}
-use denote.Ref.{now}
-use lib.ListN.{take}
+use native.Mathlib.Omega.{arith}
+use Prim.Native.Nat.{ℕ, _+_, _<_, _^_}
+use mathlib.Core.Path.{_≡_, refl, sym, ap, _∙_}
+use mathlib.Core.Bool.{Bool, true, false, _&&_}
+use mathlib.Core.List.{[], _∷_}
+use mathlib.Core.Option.{none, some}
 use Rattle.model.specs.declared.Phase.{Phase}
 use Rattle.model.specs.declared.Phase.the-variants.{Idle, Physical, Logical}
-use Rattle.model.specs.declared.State.{State}
 use Rattle.model.specs.declared.Step.the-variants.{Commit}
-use Rattle.model.specs.declared.Refusal.the-variants.{NotNow}
-use Rattle.model.specs.Notation.{allBelow}
+use Rattle.model.specs.Outcome as says
 use Rattle.model.specs.Check.{firstRefusal}
+use Rattle.model.specs.Layout.{lineCell}
 use Rattle.model.specs.Phase.{isIdle, isLogical}
-use Rattle.model.specs.State.{view, viewProgress}
-use Rattle.model.specs.Write.{writeAll, commitWrites}
+use Rattle.model.specs.State.{GlobalState}
 use Rattle.model.specs.Change.{endRound, withRound, withProgress}
-use Rattle.model.specs.Step.{mayCommit, priorChecks, roomChecks, logChecks, ownChecks, nextLine, effect}
+use Rattle.model.specs.Write.{commitWrites}
+use Rattle.model.specs.Step.{mayCommit, priorChecks, roomChecks, logChecks, ownChecks, effect, nextLine}
 use Rattle.model.proofs.laws.Tests.{and-left, true-is-not-false}
-use Rattle.engine.proofs.Bounds.{sizes-fit, next-line-fits}
+use Rattle.engine.specs.declared.spot.Spot.{Spot}
+use Rattle.engine.specs.Spent.{oneWrite}
+use Rattle.engine.specs.Spots.{Sees, putBack}
 use Rattle.engine.proofs.Views.{same-state}
-use Rattle.engine.proofs.Promises.{performs-refused, performs-lost, performs-done}
+use Rattle.engine.proofs.Turning.{turns-refused, turns-lost, turns-done, same-result, next-line}
+use Rattle.engine.proofs.Turning.{same-word, same-tag, same-channel, same-counts}
 use Rattle.engine.proofs.commit.commit.Statement.{statement}
 use Rattle.engine.proofs.commit.commit.Tie as tie
 
--- what its check says
-module _ (s : State) where
-  not-now : mayCommit (view s) ≡ false → firstRefusal (ownChecks (view s) Commit) ≡ some 12
+and-assoc : (a b c : Bool) → ((a && b) && c) ≡ (a && (b && c))
+and-assoc true b c = refl
+and-assoc false b c = refl
+
+abbrev may : Spot → Bool
+may s = isLogical (s .round .phase) && s .through
+
+-- the logical phase is part of a round under way
+busy : (phase : Phase) → isLogical phase ≡ true → isIdle phase ≡ false
+busy Idle e = true-is-not-false e refl
+busy (Physical next) e = refl
+busy Logical e = refl
+
+-- what the model has for a state seen so
+module _ (s : Spot) (g : GlobalState) (v : Sees g Commit s) where
+  decided : mayCommit g ≡ may s
+  unfolding mayCommit
+  decided = and-assoc (isLogical (g .round .phase)) _ _ ∙ rw (v .round, v .through)
+
+  not-now : may s ≡ false → firstRefusal (ownChecks g Commit) ≡ some 12
   unfolding ownChecks priorChecks roomChecks logChecks firstRefusal
-  not-now e = rw e
+  not-now e = rw (decided, e)
 
-  passed : mayCommit (view s) ≡ true → firstRefusal (ownChecks (view s) Commit) ≡ none
+  passed : may s ≡ true → firstRefusal (ownChecks g Commit) ≡ none
   unfolding ownChecks priorChecks roomChecks logChecks firstRefusal
-  passed e = rw e
+  passed e = rw (decided, e)
 
-  -- the logical phase is part of a round under way
-  busy : mayCommit (view s) ≡ true → isIdle (s .round .phase) ≡ false
-  unfolding mayCommit view
-  busy e = go (s .round .phase) (and-left _ _ (and-left _ (allBelow (s .topology .channels) _) e))
-    where
-      go : (phase : Phase) → isLogical phase ≡ true → isIdle phase ≡ false
-      go Idle e = true-is-not-false e refl
-      go (Physical next) e = refl
-      go Logical e = refl
-
--- once it was asked whether the round is through
-module _ (c : tie.After-may-commit) where
-  abbrev start : tie.Start
-  start = c .before .before .before .before .before
-
-  abbrev state : State
-  state = start .args .s
-
-  decided : mayCommit (view state) ≡ c .may-commit .result
-  unfolding mayCommit view viewProgress
-  decided = sym (c .may-commit .ensures)
-
-may-commit-requires : tie.Need-may-commit-requires
-may-commit-requires c κs =
-    let b = c .before .before .before .before in
-    let fit = sizes-fit _ (b .pre .0) in
-    (fit .processes, fit .channels)
+  writes : effect g Commit .writes ≡ oneWrite lineCell (s .round .line + 1)
+  unfolding effect commitWrites nextLine
+  writes = rw (v .round)
 
 returns : tie.Need-returns
 returns c =
-    let asked = c .before .before in
-    performs-refused (state asked) Commit _ _ NotNow
-    (not-now (state asked) (decided asked ∙ not-true _ (c .before .if1 .taken))) (c .refused .ensures)
+    let t = c .before in
+    turns-refused _ _ _ _ _
+    (λ g v. not-now _ g v (rw (← (t .before .before .is-logical .ensures)) (not-true _ (t .if1 .taken))))
+    (c .refused .ensures)
 
-through : (d : tie.Else1) → mayCommit (view (state (d .before))) ≡ true
-through d = decided (d .before) ∙ not-false _ (d .if1 .left)
+through : (d : tie.Else1) → may (d .before .before .before .before .before .args .s) ≡ true
+through d = rw (← (d .before .before .is-logical .ensures)) (not-false _ (d .if1 .left))
 
 add-line : tie.Need-add-line
 add-line c =
     let d = c .before in
-    let s = state (d .before) in
-    omega (arith, next-line-fits s (start (d .before) .pre .0) (busy s (through d)) (omega arith))
-
--- the write
-module _ (c : tie.After-put) where
-  abbrev d : tie.Else1
-  d = c .before .before .before
-
-  abbrev s : State
-  s = state (d .before)
-
-  may : firstRefusal (ownChecks (view s) Commit) ≡ none
-  may = passed s (through d)
-
-  written : c .put .last .0
-      ≡ writeAll (now (start (d .before) .args .store))
-      (take (start (d .before) .args .budget) (effect (view s) Commit .writes))
-  unfolding effect commitWrites nextLine view
-  written = c .put .ensures .store
+    let s = d .before .before .before .before .before .args .s in
+    omega (
+      arith,
+      next-line (d .before .before .before .before .before .pre .0)
+          (busy (s .round .phase) (and-left _ (s .through) (through d))) (omega arith),
+    )
 
 returns-2 : tie.Need-returns-2
-unfolding effect commitWrites
-returns-2 c = let p = c .before .before .before in performs-lost (s p) Commit _ _ (may p) _ (written p) (c .if2 .taken)
+returns-2 c =
+    let p = c .before .before .before .before in
+    turns-lost _ _ _ _ (λ g v. passed _ g v (through (p .before .before .before))) _ _ (p .put .ensures .store)
+    (λ g v. writes _ g v) (c .before .if2 .taken) (c .stopped .ensures)
 
 returns-3 : tie.Need-returns-3
-unfolding effect commitWrites endRound withRound withProgress nextLine view
+unfolding effect commitWrites nextLine endRound withRound withProgress putBack
 returns-3 c =
-    let p = c .before .before .before .before in
-    performs-done (s p) Commit _ _ (may p) _ (written p) (c .before .if2 .left) 1 refl refl _
-    (same-state refl refl refl refl refl (c .flags2 .ensures) refl)
+    let p = c .before .before .before in
+    turns-done _ _ _ _ (λ g v. passed _ g v (through (p .before .before .before))) _ _ (p .put .ensures .store)
+    _ refl refl refl (c .if2 .left)
+    (λ g v. rw (v .round)
+    (same-result refl
+    (same-state refl refl (sym (same-word v)) (sym (same-tag v)) (sym (same-channel v)) refl (sym (same-counts v)))
+    refl))
 
 pub commit-spec : {M : Type 1} → statement M
 commit-spec =
     tie.close
     (tie.spec
-    may-commit-requires
+    (λ c κs. search needs)
     (λ c κs. search needs)
     returns
     add-line
-    (λ c κs. omega (arith, start (c .before .before .before) .pre .1))
+    (λ c κs. search needs)
+    (λ c κs. search needs)
     (λ c. search needs)
     returns-2
-    (λ c κs. search needs)
     (λ c. search needs)
     returns-3)

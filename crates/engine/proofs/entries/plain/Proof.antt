@@ -6,7 +6,6 @@ use Prim.Native.Nat.{_-_, _≤_}
 use mathlib.Core.Path.{_≡_, refl, sym, _∙_}
 use mathlib.Core.Bool.{false}
 use mathlib.Core.Logic.{⊎-elim}
-use Rattle.model.specs.State.{emptyChannel}
 use Rattle.model.specs.Notation.{tabulate}
 use Rattle.model.specs.Channel.{entryOf, entries, bodies, messages}
 use Rattle.model.proofs.laws.ChannelLaws.{bodiesBelow, message-more, marker-more, messages-append}
@@ -20,7 +19,7 @@ abbrev μ-loop : tie.MeasureT-loop
 μ-loop c r₀ i₀ r i = c .count - i
 
 loop-holds : tie.Need-loop-holds Inv-loop μ-loop
-unfolding emptyChannel entries tabulate messages bodies
+unfolding entries tabulate messages bodies
 loop-holds c = rw (c .empty .ensures) (omega arith, omega arith, refl)
 
 loop-again : tie.Need-loop-again Inv-loop μ-loop

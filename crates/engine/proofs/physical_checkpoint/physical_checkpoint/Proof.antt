@@ -1,52 +1,41 @@
 -- `engine::physical_checkpoint::physical_checkpoint` meets its contract: refused where the process is not the next one,
 -- else its word is written, and then the next process's turn or the logical phase comes.
-use Prim.Native.Nat.{ℕ, _+_, _<_, _≤_}
-use mathlib.Core.Path.{_≡_, sym, refl, _∙_}
-use mathlib.Core.Bool.{true, false}
+use Prim.Native.Nat.{ℕ, _+_, _<_}
+use mathlib.Core.Path.{_≡_, sym, refl, ap, _∙_}
+use mathlib.Core.Bool.{true, false, cond}
 use mathlib.Core.Option.{none, some}
 use native.Mathlib.Omega.{arith}
 use borrow.Author.Needs.{needs}
-use borrow.Author.Tests.{not-true, not-false, lt-ltb, le-ltb}
+use borrow.Author.Tests.{not-true, not-false, lt-leb, le-leb, ltb-true, ltb-false}
 use denote.Ref.{now}
+use lib.Dec.{ltb, leb}
 use lib.ListN.{take}
 use Rattle.model.specs.declared.Phase.{Phase}
 use Rattle.model.specs.declared.Phase.the-variants.{Idle, Physical, Logical}
-use Rattle.model.specs.declared.State.{State}
-use Rattle.model.specs.declared.Step.{Step}
+use Rattle.model.specs.declared.Round.{Round}
 use Rattle.model.specs.declared.Step.the-variants.{PhysicalCheckpoint}
-use Rattle.model.specs.declared.Refusal.the-variants.{NoSuch, NotNow}
+use Rattle.model.specs.Outcome as says
 use Rattle.model.specs.Check.{firstRefusal}
 use Rattle.model.specs.Topology.{processLimit, hasProcess}
 use Rattle.model.specs.Phase.{isIdle, isNext}
-use Rattle.model.specs.State.{view}
+use Rattle.model.specs.State.{GlobalState, noProgress}
 use Rattle.model.specs.Write.{writeAll, physicalWrites}
 use Rattle.model.specs.Change.{inPhase, withRound, withProgress}
 use Rattle.model.specs.Step.{priorChecks, roomChecks, logChecks, ownChecks, nextLine, afterPhysical, effect}
-use Rattle.model.specs.Layout.{present}
-use Rattle.model.proofs.laws.Tests.{true-is-not-false}
+use Rattle.model.specs.Layout.{present, physicalCell}
+use Rattle.model.proofs.laws.Tests.{true-is-not-false, Tested, holds, fails, test}
 use Rattle.model.proofs.store.Sizes.{Sized}
 use Rattle.model.proofs.store.Addresses.{in-store, physical-within}
-use Rattle.engine.proofs.Bounds.{sound-sized, next-line-fits}
+use Rattle.engine.specs.declared.spot.Spot.{Spot}
+use Rattle.engine.specs.Answers.{roundAfter}
+use Rattle.engine.specs.Spent.{oneWrite}
+use Rattle.engine.specs.Spots.{Sees, putBack}
+use Rattle.engine.specs.Spots as spots
 use Rattle.engine.proofs.Views.{same-state}
-use Rattle.engine.proofs.Promises.{performs-refused, performs-lost, performs-done}
+use Rattle.engine.proofs.Turning.{Found, found, turns-refused, turns-lost, turns-done, same-result, next-line}
+use Rattle.engine.proofs.Turning.{seen-sizes, same-word, same-tag, same-channel, same-progress, same-counts}
 use Rattle.engine.proofs.physical_checkpoint.physical_checkpoint.Statement.{statement}
 use Rattle.engine.proofs.physical_checkpoint.physical_checkpoint.Tie as tie
-
--- what its checks say
-module _ (s : State) (p : ℕ) where
-  missing : s .topology .processes ≤ p → firstRefusal (ownChecks (view s) (PhysicalCheckpoint p)) ≡ some 8
-  unfolding ownChecks priorChecks roomChecks logChecks hasProcess firstRefusal view
-  missing l = rw (le-ltb p (s .topology .processes) l)
-
-  module _ (l : p < s .topology .processes) where
-    not-now : isNext (s .round .phase) p ≡ false
-        → firstRefusal (ownChecks (view s) (PhysicalCheckpoint p)) ≡ some 12
-    unfolding ownChecks priorChecks roomChecks logChecks hasProcess firstRefusal view
-    not-now e = rw (lt-ltb p (s .topology .processes) l, e)
-
-    passed : isNext (s .round .phase) p ≡ true → firstRefusal (ownChecks (view s) (PhysicalCheckpoint p)) ≡ none
-    unfolding ownChecks priorChecks roomChecks logChecks hasProcess firstRefusal view
-    passed e = rw (lt-ltb p (s .topology .processes) l, e)
 
 -- a process's turn is in a round under way
 next-busy : (phase : Phase) (p : ℕ) → isNext phase p ≡ true → isIdle phase ≡ false
@@ -54,129 +43,141 @@ next-busy Idle p e = true-is-not-false e refl
 next-busy (Physical next) p e = refl
 next-busy Logical p e = refl
 
--- a planned process
-abbrev start : tie.Else1 → tie.Start
-start d = d .before .before .before .before
+-- what the model has for a state seen so
+module _ (s : Spot) (g : GlobalState) (v : Sees g (PhysicalCheckpoint (s .process)) s) where
+  here : Found (hasProcess (g .topology) (s .process)) 0 (s .process) (s .channel) (s .process)
+  here = found _ _ _ _ _ (v .place)
+
+  planned : s .process < s .processes
+  unfolding hasProcess
+  planned = rw (← (v .processes)) (ltb-true _ _ (here .holds))
+
+  not-now : isNext (s .round .phase) (s .process) ≡ false
+      → firstRefusal (ownChecks g (PhysicalCheckpoint (s .process))) ≡ some 12
+  unfolding ownChecks priorChecks roomChecks logChecks firstRefusal
+  not-now e = rw (here .holds, v .round, e)
+
+  passed : isNext (s .round .phase) (s .process) ≡ true
+      → firstRefusal (ownChecks g (PhysicalCheckpoint (s .process))) ≡ none
+  unfolding ownChecks priorChecks roomChecks logChecks firstRefusal
+  passed e = rw (here .holds, v .round, e)
+
+  writes : effect g (PhysicalCheckpoint (s .process)) .writes
+      ≡ oneWrite (physicalCell (s .round .line + 1) (s .process)) (s .word)
+  unfolding effect physicalWrites nextLine
+  writes = rw (v .round, v .word)
+
+  -- the next process's turn, or the logical phase
+  moved : (r : Round) → r ≡ roundAfter (s .round) (s .process) (s .processes)
+      → Tested (ltb (s .process + 1) (s .processes))
+      → afterPhysical g (s .process)
+      ≡ record {
+        topology = g .topology;
+        round = r;
+        word = g .word;
+        tag = g .tag;
+        channel = g .channel;
+        progress = cond (leb (s .processes) (s .process + 1)) noProgress (g .progress);
+        counts = g .counts;
+      }
+  unfolding afterPhysical inPhase withRound withProgress
+  moved r e (holds l) =
+      rw (v .processes, l, lt-leb (s .processes) (s .process + 1) (ltb-true _ _ l))
+      (same-state refl
+      (ap (λ (q : Round). record { line = q .line; phase = Physical (s .process + 1) }) (v .round) ∙ sym (rw l at e))
+      refl refl refl refl refl)
+  moved r e (fails l) =
+      rw (v .processes, l, le-leb (s .processes) (s .process + 1) (ltb-false _ _ l))
+      (same-state refl
+      (ap (λ (q : Round). record { line = q .line; phase = Logical }) (v .round) ∙ sym (rw l at e))
+      refl refl refl refl refl)
 
 returns : tie.Need-returns
 returns c =
-    let a = c .before .before .before .before .before .args in
-    performs-refused (a .t1) _ _ _ NoSuch (missing (a .t1) (a .process) (c .before .if1 .taken)) (c .refused .ensures)
-
-returns-2 : tie.Need-returns-2
-returns-2 c =
-    let asked = c .before .before in
-    let d = asked .before .before in
-    let a = start d .args in
-    performs-refused (a .t1) _ _ _ NotNow
-    (not-now (a .t1) (a .process) (d .if1 .left) (sym (asked .is-next .ensures) ∙ not-true _ (c .before .if2 .taken)))
-    (c .refused2 .ensures)
+    let t = c .before in
+    turns-refused _ _ _ _ _
+    (λ g v. not-now _ g v (sym (t .before .is-next .ensures) ∙ not-true _ (t .if1 .taken))) (c .refused .ensures)
 
 -- it is the next one
-module _ (e : tie.Else2) where
-  abbrev planned : tie.Else1
-  planned = e .before .before .before
+module _ (e : tie.Else1) where
+  abbrev start : tie.Start
+  start = e .before .before .before .before
 
-  abbrev began : tie.Start
-  began = start planned
+  abbrev s : Spot
+  s = start .args .s
 
-  abbrev state : State
-  state = began .args .t1
+  within : s .process < s .processes
+  within = planned s (start .pre .0 .state) (start .pre .0 .sees)
 
-  abbrev process : ℕ
-  process = began .args .process
+  sized : Sized present (spots.sized (s .processes) (s .channels)) (now (start .args .store))
+  sized =
+      let fit = seen-sizes (start .pre .0) in
+      record { processes = fit .processes; channels = fit .channels; cells = start .pre .1 }
 
-  sized : Sized present (state .topology) (now (began .args .store))
-  sized = sound-sized state (began .pre .0) (now (began .args .store)) (began .pre .1)
+  below : s .process < processLimit
+  below = omega (arith, within, sized .processes)
 
-  below : process < processLimit
-  below = omega (arith, planned .if1 .left, sized .processes)
-
-  next : isNext (state .round .phase) process ≡ true
-  next = sym (e .before .is-next .ensures) ∙ not-false _ (e .if2 .left)
-
-  may : firstRefusal (ownChecks (view state) (PhysicalCheckpoint process)) ≡ none
-  may = passed state process (planned .if1 .left) next
+  next : isNext (s .round .phase) (s .process) ≡ true
+  next = sym (e .before .is-next .ensures) ∙ not-false _ (e .if1 .left)
 
 add-physical-cell : tie.Need-add-physical-cell
 add-physical-cell c =
     let e = c .before in
-    let busy = next-busy (state e .round .phase) (process e) (next e) in
-    omega (arith, next-line-fits (state e) (began e .pre .0) busy (omega arith))
+    omega (arith, next-line (start e .pre .0) (next-busy (s e .round .phase) (s e .process) (next e)) (omega arith))
 
 put-requires : tie.Need-put-requires
 put-requires c κs =
-    let cell = c .before .before in
+    let cell = c .before in
     let e = cell .before .before in
-    rw (cell .physical-cell .ensures) (in-store (sized e) _ _ (physical-within (sized e) _ _ (planned e .if1 .left)))
+    rw (cell .physical-cell .ensures) (in-store (sized e) _ _ (physical-within (sized e) _ _ (within e)))
 
 -- the write
-module _ (c : tie.After-put) where
-  abbrev e : tie.Else2
-  e = c .before .before .before .before .before
+module _ (p : tie.After-put) where
+  abbrev e : tie.Else1
+  e = p .before .before .before .before
 
-  abbrev step : Step
-  step = PhysicalCheckpoint (process e)
+  written : p .put .last .0
+      ≡ writeAll (now (start e .args .store))
+      (take (start e .args .budget) (oneWrite (physicalCell (s e .round .line + 1) (s e .process)) (s e .word)))
+  written = rw (p .before .before .physical-cell .ensures) at (p .put .ensures .store)
 
-  written : c .put .last .0
-      ≡ writeAll (now (began e .args .store)) (take (began e .args .budget) (effect (view (state e)) step .writes))
-  unfolding effect physicalWrites nextLine view
-  written = rw (c .before .before .before .physical-cell .ensures) at (c .put .ensures .store)
-
-returns-3 : tie.Need-returns-3
-unfolding effect physicalWrites
-returns-3 c =
-    let p = c .before .before .before in
-    performs-lost (state (e p)) (step p) _ _ (may (e p)) _ (written p) (c .if3 .taken)
+returns-2 : tie.Need-returns-2
+returns-2 c =
+    let p = c .before .before .before .before in
+    turns-lost _ _ _ _ (λ g v. passed _ g v (next (e p))) _ _ (written p) (λ g v. writes _ g v) (c .before .if2 .taken)
+    (c .stopped .ensures)
 
 -- the power lasted
-abbrev lasted : tie.Else3 → tie.After-put
+abbrev lasted : tie.Else2 → tie.After-put
 lasted d = d .before .before .before
 
--- the round after it
-abbrev rounded : tie.After-round-after → tie.After-put
-rounded q = lasted (q .before)
-
--- the logical phase comes
-returns-4 : tie.Need-returns-4
-unfolding effect physicalWrites afterPhysical inPhase withRound withProgress view
-returns-4 c =
-    let q = c .before .before .before in
-    let p = rounded q in
-    let l = le-ltb (process (e p) + 1) (state (e p) .topology .processes) (c .before .if4 .taken) in
-    performs-done (state (e p)) (step p) _ _ (may (e p)) _ (written p) (q .before .if3 .left) 1 refl refl _
-    (rw l (same-state refl (rw l at (q .round-after .ensures)) refl refl refl (c .flags .ensures) refl))
-
--- or the next process's turn
-returns-5 : tie.Need-returns-5
-unfolding effect physicalWrites afterPhysical inPhase withRound view
-returns-5 c =
+returns-3 : tie.Need-returns-3
+unfolding effect putBack
+returns-3 c =
     let q = c .before .before in
-    let p = rounded q in
-    let l = lt-ltb (process (e p) + 1) (state (e p) .topology .processes) (c .if4 .left) in
-    performs-done (state (e p)) (step p) _ _ (may (e p)) _ (written p) (q .before .if3 .left) 1 refl refl _
-    (rw l (same-state refl (rw l at (q .round-after .ensures)) refl refl refl refl refl))
+    let p = lasted (q .before) in
+    turns-done _ _ _ _ (λ g v. passed _ g v (next (e p))) _ _ (written p) _ refl refl refl (q .before .if2 .left)
+    (λ g v. same-result refl
+    (moved (s (e p)) g v (q .round-after .result) (q .round-after .ensures) (test _)
+    ∙ same-state refl refl (sym (same-word v)) (sym (same-tag v)) (sym (same-channel v))
+    (ap (cond (leb (s (e p) .processes) (s (e p) .process + 1)) noProgress) (sym (same-progress v)))
+    (sym (same-counts v)))
+    (writes _ g v))
 
 pub physical-checkpoint-spec : {M : Type 1} → statement M
 physical-checkpoint-spec =
     tie.close
     (tie.spec
     (λ c κs. search needs)
+    (λ c κs. search needs)
     returns
-    (λ c κs. search needs)
-    (λ c κs. search needs)
-    returns-2
     add-physical-cell
     (λ c κs. search needs)
-    (λ c. search needs)
-    (λ c. below (c .before .before))
     put-requires
-    (λ c. search needs)
-    returns-3
-    (λ c κs. below (e (lasted c)))
-    (λ c. omega (arith, below (e (rounded c))))
     (λ c κs. search needs)
     (λ c. search needs)
-    returns-4
+    returns-2
+    (λ c κs. below (e (lasted c)))
+    (λ c. omega (arith, below (e (lasted (c .before .before)))))
     (λ c. search needs)
-    returns-5)
+    returns-3)

@@ -6,12 +6,14 @@ use mathlib.Core.Bool.{false}
 use mathlib.Core.List.{[]}
 use borrow.Author.Needs.{needs}
 use native.Mathlib.Omega.{arith}
-use lib.ListN.{length, getD, length-set}
-use Rattle.model.specs.Channel.{entries, messages}
-use Rattle.model.specs.State.{emptyChannel}
+use lib.ListN.{length, replicate, length-set}
+use Rattle.model.specs.declared.Channel.{Channel}
+use Rattle.model.specs.declared.Places.{Places}
+use Rattle.model.specs.Channel.{held, entries, messages}
+use Rattle.model.specs.State.{noPlaces, entriesIn}
 use Rattle.model.specs.Topology.{channelLimit}
 use Rattle.model.specs.Layout.{present, cell, Log, channelLog}
-use Rattle.model.proofs.laws.Functions.{filledBelow, filled-none, filled-more}
+use Rattle.model.proofs.laws.Functions.{filledBelow, filled-none, filled-both}
 use Rattle.model.specs.Start.{storedLine}
 use Rattle.model.specs.Form as form
 use Rattle.model.proofs.store.Readable.{Readable, readable, last-in-store}
@@ -22,13 +24,14 @@ use Rattle.recovery.proofs.start.channels.Statement.{statement}
 use Rattle.recovery.proofs.start.channels.Tie as tie
 
 abbrev Inv-loop : tie.InvT-loop
-Inv-loop topology store line r₀ c₀ r c =
+Inv-loop topology store line places₀ lengths₀ c₀ places lengths c =
     (c ≤ topology .channels)
-    × (length r ≡ channelLimit)
-    × ((λ (i : ℕ). entries (getD r i emptyChannel)) ≡ filledBelow c (channelOf store) [])
+    × (length places ≡ channelLimit)
+    × (length lengths ≡ channelLimit)
+    × (entriesIn places lengths ≡ filledBelow c (channelOf store) [])
 
 abbrev μ-loop : tie.MeasureT-loop
-μ-loop topology store line r₀ c₀ r c = topology .channels - c
+μ-loop topology store line places₀ lengths₀ c₀ places lengths c = topology .channels - c
 
 -- nothing was refused
 known : (c : tie.Start Inv-loop μ-loop) → Readable present (c .args .topology) (c .args .store .now)
@@ -44,7 +47,7 @@ at t = t .before .before .loop .c
 loop-holds : tie.Need-loop-holds Inv-loop μ-loop
 loop-holds c =
     let st = c .before .before .before .args .store .now in
-    (omega arith, refl, no-entries (c .empty .result) (c .empty .ensures) ∙ filled-none (channelOf st) [])
+    (omega arith, refl, refl, no-entries (replicate channelLimit (c .blank .result)) ∙ filled-none (channelOf st) [])
 
 fill-requires : tie.Need-fill-requires Inv-loop μ-loop
 unfolding storedLine cell
@@ -57,15 +60,22 @@ fill-requires c κs =
 loop-again : tie.Need-loop-again Inv-loop μ-loop
 unfolding storedLine cell form.logged form.bodiesBy form.entriesBy
 loop-again c =
-    let t = c .before .before in
+    let f = c .before in
+    let t = f .before .before in
     let l = t .before .before .loop in
     let st = start t .args .store .now in
-    let filled : entries (c .fill .result) ≡ channelOf st (at t) = c .fill .ensures
-    ∙ ap (λ (a : ℕ). messages false (bodiesAt st a)) (c .before .channel-count-cell .ensures) in
-    let inside : at t < length (l .r) = omega (arith, known (start t) .sized .channels) in (
+    let x : Channel = f .fill .result in
+    let filled : entries (held (c .places .result) (x .count)) ≡ channelOf st (at t) =
+    ap (λ (p : Places). entries (held p (x .count))) (c .places .ensures)
+    ∙ f .fill .ensures ∙ ap (λ (a : ℕ). messages false (bodiesAt st a)) (f .before .channel-count-cell .ensures) in
+    let planned = known (start t) .sized .channels in
+    let inside : at t < length (l .places) = omega (arith, planned) in
+    let within : at t < length (l .lengths) = omega (arith, planned) in (
       omega arith,
       simp length-set (l .inv .1),
-      filled-more entries (l .r) emptyChannel (c .fill .result) (at t) (channelOf st) [] inside (l .inv .2) filled,
+      simp length-set (l .inv .2),
+      filled-both (λ (p : Places) (n : ℕ). entries (held p n)) (l .places) (l .lengths) noPlaces (c .places .result) 0
+          (x .count) (at t) (channelOf st) [] inside within (l .inv .3) filled,
     )
 
 returns : tie.Need-returns Inv-loop μ-loop
@@ -73,7 +83,11 @@ returns c =
     let l = c .before .before .loop in
     let a = c .before .before .before .before .before .before .args in
     let e : l .c ≡ a .topology .channels = omega arith in
-    rw e at (l .inv .2) ∙ channels-below (a .topology) (a .store .now)
+    rw e at (l .inv .3) ∙ channels-below (a .topology) (a .store .now)
+
+-- the channel of a turn is one of the arrays
+below : (c : tie.After-places Inv-loop μ-loop) → at (c .before .before .before) < channelLimit
+below c = omega (arith, known (start (c .before .before .before)) .sized .channels)
 
 pub channels-spec : {M : Type 1} → statement M
 channels-spec =
@@ -84,11 +98,13 @@ channels-spec =
     (λ c. omega (arith, known (c .before .before) .sized .cells))
     (λ c κs. search needs)
     loop-holds
+    (λ c. search needs)
     (λ c κs. search needs)
     fill-requires
-    (λ c. search needs)
-    (λ c. search needs)
-    (λ c. omega (arith, known (start (c .before .before)) .sized .channels))
+    (λ c κs. search needs)
+    (λ c. omega (arith, below c))
+    (λ c. omega (arith, below c))
+    (λ c. omega (arith, below c))
     (λ c. search needs)
     (λ c. search needs)
     loop-again

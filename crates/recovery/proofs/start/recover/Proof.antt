@@ -19,15 +19,15 @@ unfolding refusalOf
 ready c = sym (c .before .before .admit-store .ensures) ∙ ap refusalOf (c .enum-told .given .1)
 
 shared-slice-read-idle : tie.Need-shared-slice-read-idle
-shared-slice-read-idle c = omega (arith, readable present _ _ (ready (c .before .before .before)) .sized .cells)
+shared-slice-read-idle c = omega (arith, readable present _ _ (ready (c .before .before .before .before .before)) .sized .cells)
 
 returns : tie.Need-returns
 unfolding recovery.recover storedLine cell
 returns c =
-    let n = c .before .before in
-    let t = n .before .before in
+    let f = c .before .before .before .before in
+    let t = f .before .before in
     starts-ready _ _ _ _ (ready t) refl
-    (rw (← (n .before .words .ensures), ← (n .channels .ensures)) (c .idle .ensures))
+    (rw (← (f .before .words .ensures), ← (f .channels .ensures)) (c .idle .ensures))
 
 returns-2 : tie.Need-returns-2
 unfolding recovery.recover refusalOf

@@ -17,7 +17,7 @@ abbrev served : tie.After-processes-arg → tie.After-requests
 served p = p .before .before .before .before .before .before .before
 
 abbrev printed : tie.After-channels-arg → tie.After-processes
-printed c = c .before .before .before .before
+printed c = c .before .before .before .before .before
 
 sizes : (q : tie.After-requests)
     → let T = start q .args .topology in SizesFit (T .processes) (T .channels)
@@ -31,7 +31,7 @@ returns c =
     let q = served (p .before) in
     let started = initialized q .initialize .ensures in
     plays-through _ _ _ _ (started .state) (started .store) (start q .pre .taken)
-    (q .requests .ensures) (p .processes .ensures) (last .channels2 .ensures)
+    (q .requests .ensures) (p .processes .ensures) (last .channels .ensures)
 
 pub run-spec : {M : Type 1} → statement M
 run-spec =

@@ -5,10 +5,10 @@ use Rattle.speed.proofs.sum.whole_sum.Statement.{statement}
 use Rattle.speed.proofs.sum.whole_sum.Tie as tie
 
 abbrev Inv-loop : tie.InvT-loop
-Inv-loop sum store channels r₀ c₀ r c = Unit
+Inv-loop sum store places lengths r₀ c₀ r c = Unit
 
 abbrev μ-loop : tie.MeasureT-loop
-μ-loop sum store channels r₀ c₀ r c = 64 - c
+μ-loop sum store places lengths r₀ c₀ r c = 64 - c
 
 pub whole-sum-spec : {M : Type 1} → statement M
 whole-sum-spec =
@@ -22,6 +22,8 @@ whole-sum-spec =
     (λ c. search needs)
     (λ c. search needs)
     (λ c. search needs)
+    (λ c. search needs)
+    (λ c κs. search needs)
     (λ c κs. search needs)
     (λ c. search needs)
     (λ c. search needs)

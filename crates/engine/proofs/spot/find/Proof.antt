@@ -1,0 +1,45 @@
+-- `engine::spot::find` meets its contract: each arm is the place of its step.
+use borrow.Author.Needs.{needs}
+use Rattle.engine.proofs.spot.find.Statement.{statement}
+use Rattle.engine.proofs.spot.find.Tie as tie
+
+returns : tie.Need-returns
+returns c = rw (c .before .before .step .given .1) (c .sender .ensures)
+
+returns-2 : tie.Need-returns-2
+returns-2 c = rw (c .before .before .step2 .given .1) (c .receiver .ensures)
+
+returns-4 : tie.Need-returns-4
+returns-4 c = rw (c .before .before .step3 .given .1) (c .alone .ensures)
+
+returns-5 : tie.Need-returns-5
+returns-5 c = rw (c .before .before .step4 .given .1) (c .alone2 .ensures)
+
+returns-6 : tie.Need-returns-6
+returns-6 c = rw (c .before .before .step5 .given .1) (c .sender2 .ensures)
+
+pub find-spec : {M : Type 1} → statement M
+find-spec =
+    tie.close
+    (tie.spec
+    (λ c. search needs)
+    (λ c κs. search needs)
+    (λ c. search needs)
+    (λ c κs. search needs)
+    (λ c. search needs)
+    (λ c. search needs)
+    (λ c κs. search needs)
+    (λ c. search needs)
+    (λ c κs. search needs)
+    (λ c. search needs)
+    (λ c κs. search needs)
+    (λ c. search needs)
+    (λ c. search needs)
+    returns
+    returns-2
+    (λ c. search needs)
+    returns-4
+    returns-5
+    returns-6
+    (λ c. search needs)
+    (λ c. search needs))
