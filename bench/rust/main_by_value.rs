@@ -12,25 +12,25 @@ mod types;
 use types::*;
 
 struct Held {
-    state: State,
+    answer: by_value::Answer,
 }
 
 impl engine::Engine for Held {
     fn initialize(t: &Topology, store: &mut [u32]) -> Held {
-        Held { state: by_value_start::initialize(*t, store).state }
+        let state = by_value_start::initialize(*t, store).state;
+        Held { answer: by_value::Answer { outcome: Outcome::Done, made: 0, state } }
     }
     fn step(&mut self, step: Step, store: &mut [u32], budget: u32) -> (Outcome, u32) {
-        let answer = by_value::step(self.state, step, store, budget);
-        self.state = answer.state;
-        (answer.outcome, answer.made)
+        self.answer = by_value::step(self.answer.state, step, store, budget);
+        (self.answer.outcome, self.answer.made)
     }
     fn recover(&mut self, t: &Topology, store: &[u32]) -> Result<(), Refusal> {
         let started = by_value_start::recover(*t, store);
-        self.state = started.state;
+        self.answer.state = started.state;
         started.start
     }
     fn state(&self) -> &State {
-        &self.state
+        &self.answer.state
     }
     fn read(bytes: &mut &[u8]) -> Result<Record, Refusal> {
         let (record, rest) = by_value_records::read(bytes)?;

@@ -1,5 +1,6 @@
 // A part of a list, run from setup with full current, up to its first refusal.
 use crate::part::Part;
+use model::Answer;
 use model::CallList;
 use model::FULL_BUDGET;
 use model::LISTED;
@@ -58,13 +59,17 @@ fn room(outcome: Outcome) -> u8
     }
 }
 
-// The calls of a part, from this state and store on. (Each call stands in the loop: a function for one call would
-// cost two copies of the state.)
+// The calls of a part, from this state and store on. (Each call stands in the loop, and the answer hands its state on:
+// a function for one call would cost two copies of the state, a state beside the answer one.)
 fn run(topology: Topology, list: CallList, part: Part, first: State, store: &mut [u32]) -> Replayed
     requires { ⌜ Held part ⌝ }
     ensures { λ r. ⌜ Replays (repliesFrom topology first (now (store .entry)) (calls list part)) r ⌝ }
 {
-    let mut state = first;
+    let mut answer = Answer {
+        outcome: Outcome::Done,
+        made: 0,
+        state: first,
+    };
     let mut rooms = [0; LISTED];
     let mut i: u16 = 0;
     while i < part.count {
@@ -73,15 +78,13 @@ fn run(topology: Topology, list: CallList, part: Part, first: State, store: &mut
         let mut left = 0;
         match content {
             Record::Call(step) => {
-                let answer = engine::step(state, step, store, FULL_BUDGET);
+                answer = engine::step(answer.state, step, store, FULL_BUDGET);
                 let outcome = answer.outcome;
                 if let Verdict::Refuse(r) = verdict(outcome) {
                     let end = End::Refused(i, r);
                     return Replayed { end, rooms };
                 }
                 left = room(outcome);
-                let after = answer.state;
-                state = after;
             }
             Record::Recover => {
                 let started = recovery::recover(topology, store);
@@ -91,7 +94,7 @@ fn run(topology: Topology, list: CallList, part: Part, first: State, store: &mut
                     return Replayed { end, rooms };
                 }
                 let after = started.state;
-                state = after;
+                answer.state = after;
             }
         }
         rooms[i as usize] = left;

@@ -72,8 +72,7 @@ fn serve(
         return recover(topology, turn, store, out);
     };
     let number = turn.number;
-    let state = turn.state;
-    let answer = engine::step(state, step, store, budget);
+    let answer = engine::step(turn.state, step, store, budget);
     let outcome = answer.outcome;
     let at = report::outcome_line(out, turn.at, number, outcome, answer.made);
     let next = answer.state;

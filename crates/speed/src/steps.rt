@@ -4,7 +4,9 @@ use crate::input::scripted;
 use crate::sum::fold;
 use crate::sum::outcome_code;
 use crate::sum::whole_sum;
+use model::Answer;
 use model::FULL_BUDGET;
+use model::Outcome;
 use model::Topology;
 use rules::layout::STORE_CELLS;
 
@@ -14,18 +16,23 @@ struct Tally {
 }
 
 fn turn(before: Tally, number: u32, script: &[u8], store: &mut [u32]) -> Tally {
-    let mut state = before.state;
+    let first = before.state;
+    let mut answer = Answer {
+        outcome: Outcome::Done,
+        made: 0,
+        state: first,
+    };
     let mut sum = before.sum;
     let mut left = script;
     while SCRIPTED <= left.len() {
         let step = scripted(left, number);
-        let answer = engine::step(state, step, store, FULL_BUDGET);
+        answer = engine::step(answer.state, step, store, FULL_BUDGET);
         let outcome = answer.outcome;
         sum = fold(fold(sum, outcome_code(outcome)), answer.made);
-        state = answer.state;
         let after = &left[SCRIPTED..];
         left = after;
     }
+    let state = answer.state;
     Tally { sum, state }
 }
 

@@ -7,6 +7,7 @@ use mathlib.Core.Path.{_≡_, refl, ap, _∙_}
 use mir.Syntax.{w8}
 use mir.Val.{Fits}
 use lib.ListN.{length, getD, replicate, length-map}
+use Rattle.model.specs.declared.Outcome.the-variants.{Done}
 use Rattle.model.specs.declared.Record.the-variants.{Recover}
 use Rattle.model.specs.CallList.{callAt, listLimit}
 use Rattle.model.specs.Outcome.{refusalOf, startRefusal}
@@ -18,12 +19,13 @@ use Rattle.reduction.proofs.replay.run.Statement.{statement}
 use Rattle.reduction.proofs.replay.run.Tie as tie
 
 abbrev Inv-loop : tie.InvT-loop
-Inv-loop topology store₀ list part state₀ rooms₀ i₀ store state rooms i =
-    Replaying topology (calls list part) (repliesFrom topology state₀ store₀ (calls list part)) state store rooms i
+Inv-loop topology store₀ list part answer₀ rooms₀ i₀ store answer rooms i =
+    Replaying topology (calls list part) (repliesFrom topology (answer₀ .state) store₀ (calls list part))
+    (answer .state) store rooms i
     × (length store ≡ length store₀)
 
 abbrev μ-loop : tie.MeasureT-loop
-μ-loop topology store₀ list part state₀ rooms₀ i₀ store state rooms i = part .count - i
+μ-loop topology store₀ list part answer₀ rooms₀ i₀ store answer rooms i = part .count - i
 
 -- a call was found
 module _ (c : tie.After-listed2 Inv-loop μ-loop) where
@@ -34,8 +36,8 @@ module _ (c : tie.After-listed2 Inv-loop μ-loop) where
   start = at-loop .before .before
 
   abbrev inv : Inv-loop (start .args .topology) (start .args .store .now) (start .args .t2) (start .args .t3)
-      (start .args .first) (replicate listLimit 0) 0
-      (at-loop .loop .store) (at-loop .loop .state) (at-loop .loop .rooms) (at-loop .loop .i)
+      (record { outcome = Done; made = 0; state = start .args .first }) (replicate listLimit 0) 0
+      (at-loop .loop .store) (at-loop .loop .answer) (at-loop .loop .rooms) (at-loop .loop .i)
   inv = at-loop .loop .inv
 
   inside : at-loop .loop .i < length (calls (start .args .t2) (start .args .t3))
@@ -92,7 +94,7 @@ unfolding refusalOf
 loop-again c =
     let found = c .before in
     ⊎-elim
-    (λ w. rw (w .12, w .13, w .14) (
+    (λ w. rw (w .11, w .12, w .13) (
       replay-goes-on (inv found .0) (inside found) (here found ∙ w .1 .given .1)
           (step-turns _ _ _ _ (w .4 .ensures) (w .7 .ensures) (w .10 .ensures)) (few found)
           (ap refusalOf (w .9 .given .1)),

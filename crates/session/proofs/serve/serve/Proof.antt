@@ -17,7 +17,7 @@ steps : tie.Need-returns-2
 steps c =
     let line = c .before .before .before in
     let answered = line .before .before .before .before in
-    let told = answered .before .before .before .before in
+    let told = answered .before .before .before in
     rw (told .«record» .given .1) (step-served _ _ _ _ _ (answered .step .ensures) (line .outcome-line .ensures))
 
 pub serve-spec : {M : Type 1} → statement M
