@@ -1,6 +1,4 @@
--- Laws that the proofs of several functions cite, and the theorems whose statements are in specs/: LineLast, Faithful
--- and Old.
-pub mod Forms
+-- Laws that the proofs of several functions cite, and the theorems whose statements are in specs/: LineLast, Faithful.
 pub mod Admitting
 pub mod Writing
 pub mod Copying
@@ -9,4 +7,3 @@ pub mod Landing
 pub mod Recovers
 pub mod LineLast
 pub mod Faithful
-pub mod Old

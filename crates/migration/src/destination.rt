@@ -1,13 +1,14 @@
 // What is written into a target: the line that the source stands at, in the target's form.
-use crate::form;
-use crate::form::Form;
-use crate::source;
 use model::Topology;
+use reading::form;
+use reading::form::Form;
+use reading::source;
 use rules::layout;
 ghost use mathlib.Core.Path.{_≡_};
 ghost use Rattle.model.specs.Write.{writeAll};
 ghost use Rattle.migration.specs.Carry.{processesWrites, bodiesWrites, channelsWrites, carryWrites};
-ghost use Rattle.migration.specs.Source.{formOf, Admitted, Copyable, bodiesAt};
+ghost use Rattle.migration.specs.Source.{Admitted, Copyable, bodiesAt};
+ghost use Rattle.reading.specs.Source.{formOf};
 
 // The words as physical checkpoints, with empty message logs.
 fn processes(topology: Topology, from: Form, source: &[u32], to: Form, target: &mut [u32])

@@ -1,18 +1,18 @@
 // Document 02, M-102: a store carried from the old form to the present one, and back. The source is only read.
 mod destination;
-mod form;
-mod source;
 
-use crate::form::Form;
 use model::Topology;
 use model::Verdict;
+use reading::form;
+use reading::form::Form;
+use reading::source;
 ghost use mathlib.Core.Path.{_≡_};
 ghost use Rattle.model.specs.Outcome.{refusalOf};
 ghost use Rattle.model.specs.Layout.{present};
-ghost use Rattle.migration.specs.Old.{old};
+ghost use Rattle.reading.specs.Old.{old};
 ghost use Rattle.migration.specs.Carry.{carry, carryRefusal};
 ghost use Rattle.migration.specs.Carries.{Carries};
-ghost use Rattle.migration.specs.Source.{formOf};
+ghost use Rattle.reading.specs.Source.{formOf};
 
 // How many cells a store of the old form has.
 pub const OLD_STORE_CELLS: usize = 3265;

@@ -13,7 +13,7 @@ use Rattle.model.specs.Layout.{present}
 use Rattle.model.specs.Outcome.{refusalNumber}
 use Rattle.model.specs.Program.{planOf, planLength, planRefusal}
 use Rattle.model.specs.Record.{lowestFirst}
-use Rattle.migration.specs.Old.{old}
+use Rattle.reading.specs.Old.{old}
 use Rattle.migration.specs.Carry.{Carried, carry}
 use Rattle.operator.specs.declared.carry.Way.{Way}
 use Rattle.operator.specs.declared.carry.Way.the-variants.{Upgrade, Downgrade}

@@ -5,10 +5,9 @@ use Prim.Native.Nat.{ℕ, _+_, _*_, _<_}
 use mathlib.Core.Path.{_≡_}
 use mathlib.Core.List.{List, map}
 use lib.ListN.{length, getD}
-use Rattle.model.specs.declared.Receipt.{Receipt}
 use Rattle.model.specs.declared.Started.{Started}
 use Rattle.model.specs.Outcome.{startRefusal}
-use Rattle.model.specs.Layout.{cell, messageEntryCells, channelEntryCells, entriesFrom, receiptIn, bodyIn}
+use Rattle.model.specs.Layout.{cell, channelEntryCells, entriesFrom, bodyIn}
 use Rattle.model.specs.State.{view}
 use Rattle.model.specs.Start.{Startup}
 
@@ -25,9 +24,6 @@ wordsSeen words = λ p. getD words p 0
 abbrev pub Ends : ℕ → List ℕ → ℕ → Type 0
 Ends w store at = at + w * cell store at < length store
 
--- the receipts of the message log, and the bodies of the channel log, whose count stands in the cell at
-abbrev pub receiptsAt : List ℕ → ℕ → List Receipt
-receiptsAt store at = map receiptIn (entriesFrom store messageEntryCells at (cell store at))
-
+-- the bodies of the channel log whose count stands in the cell at
 abbrev pub bodiesAt : List ℕ → ℕ → List ℕ
 bodiesAt store at = map bodyIn (entriesFrom store channelEntryCells at (cell store at))

@@ -12,7 +12,8 @@ use model::Started;
 use model::State;
 use model::Topology;
 use model::Verdict;
-use rules::cells;
+use reading::form::Form;
+use reading::source;
 use rules::channel;
 use rules::fresh;
 use rules::layout;
@@ -20,11 +21,9 @@ use rules::topology;
 ghost use mathlib.Core.Path.{_≡_};
 ghost use mathlib.Core.List.{[]};
 ghost use mathlib.Core.Option.{none, some};
-ghost use lib.ListN.{length};
 ghost use Rattle.model.specs.Outcome.{refusalNumber, refusalOf, startRefusal};
 ghost use Rattle.model.specs.State.{view, idleState, blankState, entriesIn};
 ghost use Rattle.model.specs.Start.{initializeRefusal, recover, recoverRefusal, recoveredWord, recoveredChannel};
-ghost use Rattle.model.specs.Start.{countsFit};
 ghost use Rattle.recovery.specs.Starts.{Starts, wordsSeen};
 
 // The channels of a state, filled: their places, and how many of each are used.
@@ -107,50 +106,7 @@ pub fn admit(topology: Topology, cells: usize) -> Verdict
     }
 }
 
-// Refusal 16: whether the logs of the store's line are within their places.
-fn counts_fit(topology: Topology, store: &[u32]) -> bool
-    requires { ⌜ initializeRefusal topology (length (now store)) ≡ none ⌝ }
-    ensures { λ r. ⌜ r ≡ countsFit topology (now (store .entry)) ⌝ }
-{
-    let line = store[layout::LINE_CELL];
-    let messages = layout::message_count_cell(line, 0);
-    if !cells::at_most(
-        store,
-        messages as u32,
-        layout::PROCESS_CELLS as u32,
-        topology.processes,
-        layout::MESSAGE_PLACES,
-    ) {
-        return false;
-    }
-    let channels = layout::channel_count_cell(line, 0);
-    cells::at_most(
-        store,
-        channels as u32,
-        layout::CHANNEL_CELLS as u32,
-        topology.channels,
-        layout::CHANNEL_PLACES,
-    )
-}
-
-// Refusals 1 to 6, then 16.
-fn admit_store(topology: Topology, store: &[u32]) -> Verdict
-    ensures { λ r. ⌜ refusalOf r ≡ recoverRefusal topology (now (store .entry)) ⌝ }
-{
-    match admit(topology, store.len()) {
-        Verdict::Pass => {
-            if counts_fit(topology, store) {
-                Verdict::Pass
-            } else {
-                Verdict::Refuse(Refusal::BadCount)
-            }
-        }
-        Verdict::Refuse(r) => Verdict::Refuse(r),
-    }
-}
-
-// The words, by replaying the message logs on the physical checkpoints. One address is worked out for each process: the
-// count of its log stands after its physical checkpoint.
+// The words, by replaying the message logs on the physical checkpoints.
 fn words(topology: Topology, store: &[u32]) -> [u32; PROCESSES]
     requires { ⌜ recoverRefusal topology (now store) ≡ none ⌝ }
     ensures { λ r. ⌜ wordsSeen r ≡ recoveredWord topology (now (store .entry)) ⌝ }
@@ -160,7 +116,7 @@ fn words(topology: Topology, store: &[u32]) -> [u32; PROCESSES]
     let mut p: u8 = 0;
     while p < topology.processes {
         let at = layout::physical_cell(line, p);
-        r[p as usize] = log::replay_log(store, at + 1, store[at]);
+        r[p as usize] = source::word(Form::Present, store, at);
         p += 1;
     }
     r
@@ -190,19 +146,13 @@ fn channels(topology: Topology, store: &[u32]) -> Filled
 pub fn recover(topology: Topology, store: &[u32]) -> Started
     ensures { λ r. ⌜ Starts (recover topology (now (store .entry))) r (now (store .entry)) ⌝ }
 {
-    match admit_store(topology, store) {
+    match source::admit(topology, Form::Present, store) {
         Verdict::Pass => {
             let words = words(topology, store);
             let filled = channels(topology, store);
             let places = filled.places;
             let lengths = filled.lengths;
-            let state = idle(
-                topology,
-                store[layout::LINE_CELL],
-                words,
-                places,
-                lengths,
-            );
+            let state = idle(topology, store[layout::LINE_CELL], words, places, lengths);
             Started {
                 start: Start::Ready,
                 state,

@@ -2,7 +2,7 @@
 use mathlib.Core.Path.{ap, _∙_}
 use borrow.Author.Needs.{needs}
 use Rattle.migration.specs.Carry.{carryRefusal}
-use Rattle.migration.specs.Source.{formOf, lengthRefusal}
+use Rattle.reading.specs.Source.{formOf, lengthRefusal}
 use Rattle.migration.proofs.admit.Statement.{statement}
 use Rattle.migration.proofs.admit.Tie as tie
 

@@ -5,7 +5,7 @@ use mathlib.Core.Option.{none}
 use lib.ListN.{length}
 use Rattle.model.specs.Outcome.{refusalOf}
 use Rattle.migration.specs.Carry.{carry, carryRefusal}
-use Rattle.migration.specs.Source.{formOf}
+use Rattle.reading.specs.Source.{formOf}
 use Rattle.migration.proofs.Admitting.{carries-done, carries-refused}
 use Rattle.migration.proofs.carry.Statement.{statement}
 use Rattle.migration.proofs.carry.Tie as tie

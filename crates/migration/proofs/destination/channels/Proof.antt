@@ -10,7 +10,8 @@ use Rattle.model.specs.Recover.{storedLine}
 use Rattle.model.proofs.store.Readable.{last-in-store}
 use Rattle.model.proofs.store.Addresses.{line-in-store, in-store, log-within}
 use Rattle.migration.specs.Carry.{bodiesWrites, channelsWrites}
-use Rattle.migration.specs.Source.{formOf, bodiesAt}
+use Rattle.migration.specs.Source.{bodiesAt}
+use Rattle.reading.specs.Source.{formOf}
 use Rattle.migration.proofs.Admitting.{Carriable, carriable}
 use Rattle.migration.proofs.Writing.{Wrote, none-wrote, one-wrote, all-wrote, wrote-length}
 use Rattle.migration.proofs.destination.channels.Statement.{statement}

@@ -5,15 +5,15 @@ use Prim.Native.Nat.{ℕ, _+_, _-_, _<_, _≤_}
 use mathlib.Core.Path.{ap₂}
 use mathlib.Core.List.{List}
 use lib.ListN.{length, length-set, set}
-use Rattle.model.specs.Form.{Form, cell, messageLog, physicalCell, countCell, receiptsBy, entriesBy}
+use Rattle.model.specs.Form.{Form, cell, messagePlaces, messageLog, physicalCell, countCell, receiptsBy, entriesBy}
 use Rattle.model.specs.Write.{Write, write, writeAll}
 use Rattle.model.specs.Recover.{storedLine, restored, restoredBy}
 use Rattle.model.proofs.store.Readable.{last-in-store}
 use Rattle.model.proofs.store.Addresses.{line-in-store, in-store, count-within}
 use Rattle.migration.specs.Carry.{processWrites, processesWrites}
-use Rattle.migration.specs.Source.{formOf}
+use Rattle.reading.specs.Source.{formOf, Lies}
 use Rattle.migration.proofs.Admitting.{Carriable, carriable}
-use Rattle.migration.proofs.Forms.{physical-low}
+use Rattle.reading.proofs.Forms.{physical-low}
 use Rattle.migration.proofs.Writing.{Wrote, none-wrote, one-wrote, all-wrote, wrote-length}
 use Rattle.migration.proofs.destination.processes.Statement.{statement}
 use Rattle.migration.proofs.destination.processes.Tie as tie
@@ -41,9 +41,12 @@ start t = t .before .before .before .before .before .before
 abbrev at : tie.Then1 Inv-loop μ-loop → ℕ
 at t = t .before .before .loop .p
 
-word-requires : tie.Need-word-requires Inv-loop μ-loop
+-- the log of the turn's process lies in the source
+lies : (c : tie.After-physical-cell2 Inv-loop μ-loop)
+    → let a = start (c .before .before) .args in
+    Lies messagePlaces (formOf (a .from) .messageCells) (a .source .now) (c .physical-cell2 .result + 1)
 unfolding storedLine cell physicalCell countCell
-word-requires c κs =
+lies c =
     let test = c .before .before in
     let r = known (start test) .readable in
     let log = messageLog (at test) in
@@ -75,7 +78,7 @@ loop-again c =
     let l = test .before .before .loop in
     one-wrote (l .inv) (test .if1 .taken)
     (ap₂ (λ (a v : ℕ). set (set (l .target) a v) (a + 1) 0) (c .before .before .physical-cell .ensures)
-    (rw (c .before .physical-cell2 .ensures) at (c .word .ensures)))
+    (rw (c .before .physical-cell2 .ensures) at (c .word .ensures .word (lies (c .before)))))
 
 returns : tie.Need-returns Inv-loop μ-loop
 unfolding processesWrites
@@ -91,7 +94,7 @@ processes-spec =
     (λ c. none-wrote)
     (λ c κs. search needs)
     (λ c κs. search needs)
-    word-requires
+    (λ c κs. search needs)
     (λ c. omega (arith, low c))
     (λ c. omega (arith, inside c))
     (λ c. omega (arith, low c))

@@ -10,7 +10,7 @@ use Rattle.model.specs.Recover.{storedLine}
 use Rattle.model.proofs.store.Writes.{length-writeAll, writeAll-append}
 use Rattle.model.proofs.store.Addresses.{line-in-store}
 use Rattle.migration.specs.Carry.{processesWrites, channelsWrites, carryWrites}
-use Rattle.migration.specs.Source.{formOf}
+use Rattle.reading.specs.Source.{formOf}
 use Rattle.migration.proofs.Admitting.{Carriable, carriable}
 use Rattle.migration.proofs.Copying.{one-more}
 use Rattle.migration.proofs.destination.write.Statement.{statement}

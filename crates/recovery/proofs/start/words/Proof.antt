@@ -5,15 +5,14 @@ use mathlib.Core.Path.{_≡_, refl, ap, _∙_}
 use borrow.Author.Needs.{needs}
 use native.Mathlib.Omega.{arith}
 use lib.ListN.{length, getD, length-set}
-use Rattle.model.specs.Word.{replay}
 use Rattle.model.specs.Topology.{processLimit}
-use Rattle.model.specs.Layout.{present, cell, messageLog}
+use Rattle.model.specs.Layout.{present, cell, messagePlaces, messageEntryCells, messageLog}
 use Rattle.model.specs.Start.{storedLine}
 use Rattle.model.specs.Form as form
 use Rattle.model.specs.Recover as recovery
 use Rattle.model.proofs.laws.Functions.{seen-replicate, filledBelow, filled-none, filled-more}
 use Rattle.model.proofs.store.Readable.{Readable, readable, last-in-store}
-use Rattle.recovery.specs.Starts.{receiptsAt}
+use Rattle.reading.specs.Source.{Lies, wordAt}
 use Rattle.recovery.proofs.Recovering.{wordOf, words-below}
 use Rattle.recovery.proofs.start.words.Statement.{statement}
 use Rattle.recovery.proofs.start.words.Tie as tie
@@ -38,39 +37,40 @@ start t = t .before .before .before .before .before
 abbrev at : tie.Then1 Inv-loop μ-loop → ℕ
 at t = t .before .before .loop .p
 
--- the physical checkpoint's cell is in the store
-physical-in : (c : tie.After-physical-cell Inv-loop μ-loop)
-    → c .physical-cell .result < length (start (c .before) .args .store .now)
-unfolding form.physicalCell form.processRecord form.slot
-physical-in c = let s = known (start (c .before)) .sized in omega (arith, c .physical-cell .ensures)
+-- the log of the turn's process lies in the store
+lies : (c : tie.After-physical-cell Inv-loop μ-loop)
+    → Lies messagePlaces messageEntryCells (start (c .before) .args .store .now) (c .physical-cell .result + 1)
+unfolding storedLine cell form.physicalCell form.countCell
+lies c =
+    let t = c .before in
+    let k = known (start t) in
+    rw (c .physical-cell .ensures)
+    (record {
+      count = k .fits (messageLog (at t)) (t .if1 .taken);
+      ends = last-in-store k (messageLog (at t)) (t .if1 .taken);
+    })
 
 loop-holds : tie.Need-loop-holds Inv-loop μ-loop
 loop-holds c =
     let st = c .before .before .args .store .now in
     (omega arith, refl, seen-replicate processLimit 0 ∙ filled-none (wordOf st) 0)
 
-replay-log-requires : tie.Need-replay-log-requires Inv-loop μ-loop
-unfolding storedLine cell form.physicalCell form.countCell
-replay-log-requires c κs =
-    let t = c .before .before in
-    rw (c .before .physical-cell .ensures) (last-in-store (known (start t)) (messageLog (at t)) (t .if1 .taken))
-
 array-write-r : tie.Need-array-write-r Inv-loop μ-loop
-array-write-r c = omega (arith, known (start (c .before .before .before)) .sized .processes)
+array-write-r c = omega (arith, known (start (c .before .before)) .sized .processes)
 
 loop-again : tie.Need-loop-again Inv-loop μ-loop
 unfolding storedLine cell recovery.restored recovery.restoredBy form.receiptsBy form.entriesBy form.physicalCell
     form.countCell
 loop-again c =
-    let t = c .before .before .before in
+    let t = c .before .before in
     let l = t .before .before .loop in
     let st = start t .args .store .now in
-    let word : c .replay-log .result ≡ wordOf st (at t) = c .replay-log .ensures
-    ∙ ap (λ (a : ℕ). replay (cell st a) (receiptsAt st (a + 1))) (c .before .before .physical-cell .ensures) in
+    let word : c .word .result ≡ wordOf st (at t) = c .word .ensures .word (lies (c .before))
+    ∙ ap (wordAt present st) (c .before .physical-cell .ensures) in
     let inside : at t < length (l .r) = omega (arith, known (start t) .sized .processes) in (
       omega arith,
       simp length-set (l .inv .1),
-      filled-more (λ x. x) (l .r) 0 (c .replay-log .result) (at t) (wordOf st) 0 inside (l .inv .2) word,
+      filled-more (λ x. x) (l .r) 0 (c .word .result) (at t) (wordOf st) 0 inside (l .inv .2) word,
     )
 
 returns : tie.Need-returns Inv-loop μ-loop
@@ -89,10 +89,7 @@ words-spec =
     (λ c. omega (arith, known (c .before .before) .sized .cells))
     loop-holds
     (λ c κs. search needs)
-    (λ c. omega (arith, physical-in c))
-    (λ c. omega (arith, physical-in c))
-    (λ c. physical-in (c .before))
-    replay-log-requires
+    (λ c κs. search needs)
     (λ c. search needs)
     (λ c. search needs)
     array-write-r

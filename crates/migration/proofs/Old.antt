@@ -1,8 +1,0 @@
--- The old form's numbers are document 01's.
-use mathlib.Core.Path.{refl}
-use Rattle.model.specs.Form.{numbers}
-use Rattle.migration.specs.Old.{OldNumbers}
-
-pub old-numbers : OldNumbers
-unfolding numbers
-old-numbers = refl

@@ -1,0 +1,3 @@
+-- Laws that the proofs of several functions cite, and the theorem whose statement is in specs/: Old.
+pub mod Forms
+pub mod Old
