@@ -5,6 +5,7 @@ pub mod RoundTrip
 pub mod Readings
 pub mod InOrder
 pub mod ToldApart
+pub mod Computing
 pub mod Cases
 pub mod Soundness
 pub mod Demand3

@@ -1,24 +1,7 @@
 -- The examples hold of the definitions: one fact over the table, by computation.
 use mathlib.Core.Path.{refl}
-use mathlib.Core.Option.{orElse}
-use Rattle.model.specs.Notation as notation
-use Rattle.model.specs.Check as check
-use Rattle.model.specs.Word as word
-use Rattle.model.specs.Topology as topology
-use Rattle.model.specs.Channel as channel
-use Rattle.model.specs.State as state
-use Rattle.model.specs.Form as form
-use Rattle.model.specs.Sound as sound
-use Rattle.model.specs.Write as write
-use Rattle.model.specs.Change as change
-use Rattle.model.specs.Receive as receive
-use Rattle.model.specs.Step as step
-use Rattle.model.specs.Recover as recovery
-use Rattle.model.specs.Start as start
-use Rattle.model.specs.Outcome as outcome
-use Rattle.model.specs.Record as records
-use Rattle.model.specs.Program as program
 use Rattle.model.specs.Cases as cases
+use Rattle.model.proofs.Computing.{computing}
 use Rattle.report.specs.Text as text
 use Rattle.report.specs.Hex as hex
 use Rattle.report.specs.Examples as examples
@@ -26,40 +9,7 @@ use Rattle.report.specs.Examples.{ExamplesHold}
 
 pub examples-hold : ExamplesHold
 unfolding
-    notation.upd notation.tabulate notation.concatBelow orElse notation.firstBelow
-    notation.allBelow notation.allTrue
-    check.firstRefusal check.accepts
-    word.replayBy
-    topology.sender topology.receiver topology.hasProcess topology.hasChannel topology.sameEnds topology.channelRefusal
-    topology.sizeRefusal topology.channelsRefusal topology.topologyRefusal
-    channel.bodies channel.messages channel.noRoomForMessage channel.noRoomForMarker channel.noEntry
-    form.cell form.slot form.processRecord form.channelRecord form.physicalCell form.countCell form.cellsFrom
-    form.entriesFrom form.entriesBy form.receiptsBy form.bodiesBy form.logged
-    state.noProgress state.noCounts state.raised state.raisedAll state.idleState
-    sound.topologySound sound.channelSound sound.logSound sound.phaseSound sound.lineSound
-    sound.channelSoundBy sound.soundBy sound.sound
-    write.write write.writeAll write.clearWrites write.physicalWrites write.cellWrites write.appendWrites
-    write.logWrites write.logsWrites
-    write.commitWrites write.underBudget
-    change.withRound change.withWord change.withTag change.withChannel change.withProgress change.withCounts
-    change.withLogical change.withClosed change.withSent change.inPhase change.setEntries change.enterMessage
-    change.logicalCheckpoint change.close change.recordSent change.plainChannels change.endRound
-    receive.logsOnly receive.reactionTo receive.anyFull
-    step.mayCheckpointLogically step.maySendMarker step.mayCommit step.reaction step.firstReaction step.markerOnClosed
-    step.priorChecks step.roomChecks step.logChecks step.ownChecks step.stepChecks step.nextLine step.quietly step.react
-    step.receivedOutcome step.receive step.afterPhysical step.effect step.resultOf step.step step.answer
-    recovery.startupOr recovery.storedLine recovery.initializeRefusal recovery.countFits recovery.countsFit
-    recovery.recoverRefusal recovery.restoredBy recovery.restored recovery.recoveredWord recovery.recoveredChannel
-    recovery.recover
-    start.initializeWrites start.initialize start.lineOr start.recoverSaid start.stateOr
-    outcome.saidValues
-    records.fieldsOf records.absent records.provided records.recordOf records.andThen records.nonzero records.readByte
-    records.readBody records.readField records.stands records.goodMap records.fieldsAfter records.withRest
-    records.readFields records.readRecord
-    program.endByte program.planOf program.planLength program.shapeRefusal program.planRefusal program.readBudget
-    program.readRequest program.readingThen program.readAll program.ofAnswer program.ofStartup program.serve
-    program.lineThen program.brokenLine program.session program.sessionFrom program.sessionOf program.report
-    program.playedOf program.played program.head
+    computing
     cases.input
     text.digits text.decimal text.values text.saidName text.saidText text.lineText text.linesText text.outputText
     hex.hexDigit hex.spacedBytes hex.hexBytes
