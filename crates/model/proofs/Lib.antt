@@ -16,4 +16,5 @@ pub mod Reached
 pub mod Trace
 pub mod OrderShows
 pub mod NextSend
+pub mod FullCurrent
 pub mod PresentNumbers

@@ -39,3 +39,4 @@ pub mod CallList
 pub mod Reduction
 pub mod OrderShows
 pub mod NextSend
+pub mod FullCurrent

@@ -83,3 +83,13 @@ underBudget budget s store r =
       state = cond (ltb budget (length (r .writes))) s (r .state);
       store = writeAll store (take budget (r .writes));
     }
+
+-- the answer where the current lasts: all the writes are made
+abbrev pub inFull : List ℕ → Result → Answered
+inFull store r =
+    record {
+      outcome = r .outcome;
+      made = length (r .writes);
+      state = r .state;
+      store = writeAll store (r .writes);
+    }

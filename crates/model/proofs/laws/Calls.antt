@@ -21,7 +21,7 @@ use Rattle.model.specs.State.{GlobalState}
 use Rattle.model.specs.Sound.{sound}
 use Rattle.model.specs.Outcome.{refused, cut}
 use Rattle.model.specs.Heard.{accepted}
-use Rattle.model.specs.Write.{Result, Answered, underBudget, writeAll}
+use Rattle.model.specs.Write.{Result, Answered, underBudget, inFull, writeAll}
 use Rattle.model.specs.Step.{priorChecks, roomChecks, logChecks, ownChecks, stepChecks, quietly, effect, resultOf}
 use Rattle.model.specs.Step.{step, answer}
 use Rattle.model.specs.Start.{startupOr, initializeRefusal, initialize, recoverRefusal, recover}
@@ -70,9 +70,7 @@ pub data Powered (budget : ℕ) (s : GlobalState) (store : List ℕ) (r : Result
       ≡ record { outcome = cut; made = budget; state = s; store = writeAll store (take budget (r .writes)) }
       → Powered budget s store r
   lasts : length (r .writes) ≤ budget
-      → underBudget budget s store r
-      ≡ record { outcome = r .outcome; made = length (r .writes); state = r .state; store = writeAll store (r .writes) }
-      → Powered budget s store r
+      → underBudget budget s store r ≡ inFull store r → Powered budget s store r
 
 pub power-cases : (budget : ℕ) (s : GlobalState) (store : List ℕ) (r : Result) → Powered budget s store r
 unfolding underBudget
@@ -89,13 +87,7 @@ power-cases budget s store r = go (test (ltb budget (length (r .writes))))
 
 -- the answer of a step that has its effect
 abbrev pub answered : GlobalState → Step → List ℕ → Answered
-answered s x store =
-    record {
-      outcome = effect s x .outcome;
-      made = length (effect s x .writes);
-      state = effect s x .state;
-      store = writeAll store (effect s x .writes);
-    }
+answered s x store = inFull store (effect s x)
 
 -- the converse of the cases: a sound state, a long enough store, no check that fails and power that lasts
 pub accepted-by : (s : GlobalState) (x : Step) (store : List ℕ) (budget : ℕ) → sound s ≡ true
