@@ -2,9 +2,9 @@
 -- finds a mark for every planned process, and an accepted receive of a message the send of it.
 use Prim.Native.Nat.{ℕ, zero, suc, _<_}
 use mathlib.Core.Path.{_≡_, refl, sym, ap, subst, _∙_}
-use mathlib.Core.Bool.{Bool, true}
+use mathlib.Core.Bool.{true}
 use mathlib.Core.List.{List, [], _∷_}
-use mathlib.Core.Option.{Option, some}
+use mathlib.Core.Option.{some}
 use lib.ListN.{length, take, drop}
 use lib.Seq.{drop-append-seam}
 use lib.Dec.{eqb}
@@ -27,10 +27,9 @@ use Rattle.model.specs.Run.{World, run, firstWorld}
 use Rattle.model.specs.AlwaysFound.{HistoriesFind, AlwaysFound}
 use Rattle.model.proofs.laws.Tests.{true-is-not-false, and-left, and-right, Tested, holds, fails, test}
 use Rattle.model.proofs.laws.Calls.{accepted-passes}
-use Rattle.model.proofs.laws.HistoryLaws.{Marked, unmarked, marked, sentOn}
-use Rattle.model.proofs.line.Values.{bookOf, seenOf}
-use Rattle.model.proofs.line.Invariant.{Inv}
-use Rattle.model.proofs.line.Phases.{is-logical, process-in}
+use Rattle.model.proofs.laws.HistoryLaws.{sentOn}
+use Rattle.model.proofs.line.Phases.{is-logical}
+use Rattle.model.proofs.line.Facts.{Facts, facts}
 use Rattle.model.proofs.Demand3.{InvOf, end-holds}
 
 -- an event that is a send on c
@@ -78,28 +77,22 @@ received-first s c [] b e = let z : _≡_ {A = ℕ} 0 1 = cc in absurd (omega ar
 received-first s c (Message x t ∷ es) b e = (bodies es, cc)
 received-first s c (Marker ∷ es) b e = let z : _≡_ {A = ℕ} 0 1 = cc in absurd (omega arith)
 
-mark-there : {n : ℕ} {x : Bool} {m : Option ℕ} → Marked n x m → x ≡ true → (k : ℕ) × (m ≡ some k)
-mark-there unmarked e = true-is-not-false e refl
-mark-there (marked {m} l) e = (m, refl)
-
-module _ (s : GlobalState) (st : List ℕ) (h : History) (i : Inv s st h) where
+module _ (s : GlobalState) (st : List ℕ) (h : History) (i : Facts s st h) where
   marks : (budget : ℕ) → accepted (answer s Commit st budget .outcome) ≡ true
       → (p : ℕ) → p < s .topology .processes → (m : ℕ) × (h .mark p ≡ some m)
-  unfolding bookOf
   marks budget ok p l =
       let (a, _) = accepted-passes s Commit st budget ok in
-      let phase = is-logical (s .round .phase) (a .prior .phase) in
-      mark-there (process-in i phase p l .round .mark) (a .prior .processes p l)
+      i .marks (is-logical (s .round .phase) (a .prior .phase)) p l (a .prior .processes p l)
 
   sends : (c budget b : ℕ) → answer s (Receive c) st budget .outcome ≡ took b
       → take 1 (drop (lookedAt (s .topology) c h) (h .events (sender (s .topology) c))) ≡ sentOn c b ∷ []
-  unfolding effect lookedAt seenOf bookOf
+  unfolding effect lookedAt
   sends c budget b e =
       let (a, is) = accepted-passes s (Receive c) st budget (rw e) in
       let (rest, first) = received-first s c (s .channel c) b (rw is at e) in
       let arrived : List ℕ = bodiesOn received c (h .events (receiver (s .topology) c)) in
       nth-send c (length arrived) (h .events (sender (s .topology) c)) b rest
-      (ap (drop (length arrived)) (i .channels c (a .prior .planned) .now) ∙ drop-append-seam arrived
+      (ap (drop (length arrived)) (i .channels c (a .prior .planned)) ∙ drop-append-seam arrived
       (bodies (s .channel c)) ∙ first)
 
 pub always-found : AlwaysFound
@@ -108,6 +101,6 @@ always-found T store ready calls =
     let i : InvOf T w = end-holds T store ready calls in
     subst (λ (T′ : Topology). HistoriesFind T′ w) (i .topology)
     (record {
-      marks = marks (w .state) (w .store) (w .history) (i .holds);
-      sends = sends (w .state) (w .store) (w .history) (i .holds);
+      marks = marks (w .state) (w .store) (w .history) (facts (i .holds));
+      sends = sends (w .state) (w .store) (w .history) (facts (i .holds));
     })

@@ -38,9 +38,7 @@ use Rattle.model.proofs.laws.Calls.{Powered, lost, lasts, power-cases}
 use Rattle.model.proofs.laws.Effects.{effect-accepted}
 use Rattle.model.proofs.laws.Receiving.{message-open}
 use Rattle.model.proofs.Soundness.{initialize-sound, answer-sound, recover-sound}
-use Rattle.model.proofs.line.ChannelState.{open-at-marker}
-use Rattle.model.proofs.line.Invariant.{Inv}
-use Rattle.model.proofs.line.Phases.{channel-in}
+use Rattle.model.proofs.line.Facts.{Facts, facts}
 use Rattle.model.proofs.Demand3.{end-holds, demand-3}
 
 -- the refusals that are left to a step: 8 to 13
@@ -86,7 +84,7 @@ refused-by s x st budget r e = go (firstRefusal (stepChecks s (length st) x)) (p
     go (some r′) (lasts l q) f = let z : refused r′ ≡ refused r = rw q at f in cc
 
 -- 14: a message closes no channel, and where a marker is first in the logical phase its channel isn't closed
-module _ (s : GlobalState) (st : List ℕ) (h : History) (fit : sound s ≡ true) (i : Inv s st h) where
+module _ (s : GlobalState) (st : List ℕ) (h : History) (fit : sound s ≡ true) (i : Facts s st h) where
   not-on-closed : (c : ℕ) → c < s .topology .channels → markerOnClosed s c ≡ false
   unfolding markerOnClosed firstReaction reaction reactionTo logsOnly
   not-on-closed c l = go (s .round .phase) refl (s .channel c) refl
@@ -97,7 +95,7 @@ module _ (s : GlobalState) (st : List ℕ) (h : History) (fit : sound s ≡ true
       go ph e (Message b t ∷ es) is = rw (message-open (s .round .phase) c (receiver (s .topology) c) _ _ b t)
       go phase.Idle e (Marker ∷ es) is = rw e
       go (phase.Physical next) e (Marker ∷ es) is = rw e
-      go phase.Logical e (Marker ∷ es) is = rw e (open-at-marker (rw is at (channel-in i e c l .round .balanced)) .1)
+      go phase.Logical e (Marker ∷ es) is = rw e (i .unclosed e c l is)
 
   own-left : (x : Step) → AllLeft (ownChecks s x)
   unfolding ownChecks priorChecks roomChecks logChecks hasChannel
@@ -117,7 +115,7 @@ module _ (s : GlobalState) (st : List ℕ) (h : History) (fit : sound s ≡ true
   unfolding stepChecks
   step-left x =
       check (λ e. true-is-not-false fit (not-true (sound s) e))
-      (λ _. check (λ e. true-is-not-false e (le-ltb (length st) storeCells (i .sized .cells))) (λ _. own-left x))
+      (λ _. check (λ e. true-is-not-false e (le-ltb (length st) storeCells (i .cells))) (λ _. own-left x))
 
 -- soundness lasts over the calls
 call-sound : (T : Topology) (w : World) → sound (w .state) ≡ true → (c : Call) → sound (next T w c .state) ≡ true
@@ -146,7 +144,7 @@ reached T store ready calls =
       steps = λ x budget r e.
           in-range r
           (first-left (stepChecks (w .state) (length (w .store)) x) r
-          (step-left (w .state) (w .store) (w .history) fit (end-holds T store ready calls .holds) x)
+          (step-left (w .state) (w .store) (w .history) fit (facts (end-holds T store ready calls .holds)) x)
           (refused-by (w .state) x (w .store) budget r e));
       recovers = demand-3 T store ready calls .accepted;
     }

@@ -24,3 +24,4 @@ pub mod MarkerReceived
 pub mod ReceiveKept
 pub mod StepKept
 pub mod RecoverKept
+pub mod Facts
