@@ -8,6 +8,7 @@ pub mod Promises
 pub mod Aborting
 pub mod Clearing
 pub mod Turning
+pub mod Phases
 pub mod WriteBack
 pub mod Receptions
 pub mod Attempting

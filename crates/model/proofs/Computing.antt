@@ -42,7 +42,7 @@ unfolding
     receive.logsOnly receive.reactionTo receive.anyFull
     step.mayCheckpointLogically step.maySendMarker step.mayCommit step.reaction step.firstReaction
     step.markerOnClosed step.priorChecks step.roomChecks step.logChecks step.ownChecks step.stepChecks step.nextLine
-    step.quietly step.react step.receivedOutcome step.receive step.afterPhysical step.effect step.resultOf step.step
+    step.quietly step.react step.receivedOutcome step.receive step.physicalFrom step.effect step.resultOf step.step
     step.answer
     recovery.startupOr recovery.storedLine recovery.initializeRefusal recovery.countFits recovery.countsFit
     recovery.recoverRefusal recovery.restoredBy recovery.restored recovery.recoveredWord recovery.recoveredChannel

@@ -6,7 +6,7 @@ use mathlib.Core.List.{List, [], _∷_}
 use mathlib.Core.Option.{none}
 use lib.ListN.{length, length-append, length-map}
 use lib.Dec.{ltb, leb, eqb}
-use borrow.Author.Tests.{leb-true, leb-false, lt-ltb, eqb-false, not-false}
+use borrow.Author.Tests.{leb-true, leb-false, lt-ltb, eqb-false, not-true, not-false}
 use native.Mathlib.Omega.{arith}
 use Rattle.model.specs.declared.Topology.{Topology}
 use Rattle.model.specs.declared.Phase.{Phase}
@@ -28,7 +28,7 @@ use Rattle.model.specs.Change.{withRound, withTag, withChannel, withProg
 use Rattle.model.specs.Change.{logicalCheckpoint, recordSent, endRound}
 use Rattle.model.specs.Receive.{anyFull}
 use Rattle.model.specs.Step.{roomChecks, logChecks, quietly, reaction, firstReaction, receive}
-use Rattle.model.specs.Step.{afterPhysical, effect, answer}
+use Rattle.model.specs.Step.{physicalFrom, effect, answer}
 use Rattle.model.specs.Start.{startupOr, initializeRefusal, initialize, storedLine, countsFit}
 use Rattle.model.specs.Start.{recoverRefusal, recoveredWord, recoveredChannel, recover}
 use Rattle.model.specs.Form as form
@@ -38,7 +38,6 @@ use Rattle.model.proofs.laws.Functions.{upd-all, upd-other}
 use Rattle.model.proofs.laws.Lists.{tabulate-length, all-at, or-else-none}
 use Rattle.model.proofs.laws.ChannelLaws.{bodies-length}
 use Rattle.model.proofs.laws.ChannelEffects.{Becomes, stays, message, marker, taken, plain, effect-becomes}
-use Rattle.model.proofs.laws.TopologyLaws.{accepted-sizes}
 use Rattle.model.proofs.laws.ReceiveLaws.{Unlike, Apart, reaction-apart}
 use Rattle.model.proofs.laws.SoundLaws.{Fits, SoundBy, Sound, sound-facts, facts-sound, RoomFits, entries-fit}
 use Rattle.model.proofs.laws.SoundLaws.{fit-sound}
@@ -93,9 +92,9 @@ none-counted T (messageLog p) l = omega arith
 none-counted T (channelLog c) l = omega arith
 
 -- where a process is the next to have its physical checkpoint the round isn't idle, so its line isn't the last
-not-last : (phase : Phase) (p : ℕ) (t : Bool) → isNext phase p ≡ true → (isIdle phase || t) ≡ true → t ≡ true
+not-last : (phase : Phase) (p : ℕ) (t : Bool) → isNext phase p ≡ true → (isIdle phase || not t) ≡ true → t ≡ false
 not-last Idle p t e l = true-is-not-false e refl
-not-last (Physical next) p t e l = l
+not-last (Physical next) p t e l = not-true t l
 not-last Logical p t e l = true-is-not-false e refl
 
 -- Every clause but the channels' is kept by an accepted step, whatever the rule for channels is.
@@ -129,38 +128,39 @@ module _ (rule : ChannelRule) (s : GlobalState) (h : SoundBy rule s) where
         line = h .line;
       })
 
-  after-physical : (p : ℕ) → isNext (s .round .phase) p ≡ true → After (afterPhysical s p)
-  unfolding afterPhysical inPhase withRound withProgress phaseSound lineSound hasProcess
-  after-physical p e = go (ltb (p + 1) (s .topology .processes)) refl
+  -- the physical phase goes on at a process of the topology, or the logical phase starts; not at the last line
+  goes-on : (x : GlobalState) (from : ℕ) → x .topology ≡ s .topology → Fits (s .topology) (x .counts)
+      → eqb (x .round .line) lastLine ≡ false → After (physicalFrom from x)
+  unfolding physicalFrom inPhase withRound withProgress phaseSound lineSound hasProcess
+  goes-on x from same fits line = go (ltb from (x .topology .processes)) refl
     where
-      line : not (eqb (s .round .line) lastLine) ≡ true
-      line = not-last (s .round .phase) p (not (eqb (s .round .line) lastLine)) e (h .line)
-
-      go : (t : Bool) → ltb (p + 1) (s .topology .processes) ≡ t
-          → After (cond t (inPhase (Physical (p + 1)) s) (inPhase Logical (withProgress noProgress s)))
-      go true n =
-          λ channels. record { topology = h .topology; channels = channels; logs = h .logs; phase = n; line = line }
-      go false n =
-          λ channels. record { topology = h .topology; channels = channels; logs = h .logs; phase = refl; line = line }
-
-  begun : eqb (s .round .line) lastLine ≡ false → After (inPhase (Physical 0) (withCounts noCounts s))
-  unfolding inPhase withRound withCounts noCounts phaseSound lineSound hasProcess
-  begun e channels =
-      record {
-        topology = h .topology;
-        channels = channels;
-        logs = none-counted (s .topology);
-        phase = lt-ltb 0 (s .topology .processes) (omega (arith, accepted-sizes (s .topology) (h .topology) .one));
-        line = rw e;
-      }
+      go : (t : Bool) → ltb from (x .topology .processes) ≡ t
+          → After (cond t (inPhase (Physical from) x) (inPhase Logical (withProgress noProgress x)))
+      go true n channels =
+          record {
+            topology = rw same (h .topology);
+            channels = channels;
+            logs = rw same fits;
+            phase = n;
+            line = rw line;
+          }
+      go false n channels =
+          record {
+            topology = rw same (h .topology);
+            channels = channels;
+            logs = rw same fits;
+            phase = refl;
+            line = rw line;
+          }
 
   pub effect-clauses : (x : Step) → Prior s x → Passed (logChecks s x) → After (effect s x .state)
-  unfolding effect quietly setEntries withChannel logicalCheckpoint withTag withProgress recordSent endRound withRound
-      phaseSound lineSound logChecks
+  unfolding effect quietly setEntries withChannel logicalCheckpoint withTag withProgress withCounts recordSent endRound
+      withRound phaseSound lineSound logChecks
   effect-clauses (Send c b) p q = as-it-was _ refl refl refl
   effect-clauses (Receive c) p q = received-by c (s .channel c) (q .0)
-  effect-clauses Begin p q = begun (p .line)
-  effect-clauses (PhysicalCheckpoint r) p q = after-physical r (p .next)
+  effect-clauses Begin p q = goes-on (withCounts noCounts s) 0 refl (none-counted (s .topology)) (p .line)
+  effect-clauses (PhysicalCheckpoint r) p q =
+      goes-on s (r + 1) refl (h .logs) (not-last (s .round .phase) r _ (p .next) (h .line))
   effect-clauses (LogicalCheckpoint r) p q = as-it-was _ refl refl refl
   effect-clauses (SendMarker c) p q = as-it-was _ refl refl refl
   effect-clauses Commit p q =

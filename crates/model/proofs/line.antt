@@ -12,8 +12,8 @@ pub mod LogicalKept
 pub mod MarkerKept
 pub mod AbortKept
 pub mod Frames
-pub mod BeginKept
 pub mod NextPhase
+pub mod BeginKept
 pub mod PhysicalKept
 pub mod CommitKept
 pub mod ReceiveHistory

@@ -140,11 +140,12 @@ receive s c (e ∷ es) =
       writes = logsWrites (nextLine s) (s .counts) (x .logs) (receiptOf c e);
     }
 
--- "The last copy starts marking, with no board marked, no wire closed and no note put."
-unfoldable pub afterPhysical : GlobalState → ℕ → GlobalState
-afterPhysical s p =
-    cond (ltb (p + 1) (s .topology .processes))
-    (inPhase (Physical (p + 1)) s)
+-- "boards in rising order": the physical phase, with this process as the next one. Where there is none such, "The last
+-- copy starts marking, with no board marked, no wire closed and no note put."
+unfoldable pub physicalFrom : ℕ → GlobalState → GlobalState
+physicalFrom from s =
+    cond (ltb from (s .topology .processes))
+    (inPhase (Physical from) s)
     (inPhase Logical (withProgress noProgress s))
 
 -- What an accepted step does.
@@ -159,11 +160,11 @@ effect s (Receive c) = receive s c (s .channel c)
 effect s Begin =
     record {
       outcome = done;
-      state = inPhase (Physical 0) (withCounts noCounts s);
+      state = physicalFrom 0 (withCounts noCounts s);
       writes = clearWrites (s .topology) (nextLine s);
     }
 effect s (PhysicalCheckpoint p) =
-    record { outcome = done; state = afterPhysical s p; writes = physicalWrites (nextLine s) p (s .word p) }
+    record { outcome = done; state = physicalFrom (p + 1) s; writes = physicalWrites (nextLine s) p (s .word p) }
 effect s (LogicalCheckpoint p) = quietly done (logicalCheckpoint p s)
 effect s (SendMarker c) = quietly done (recordSent c (setEntries c (s .channel c ++ (Marker ∷ [])) s))
 -- "The state becomes idle with line k + 1."

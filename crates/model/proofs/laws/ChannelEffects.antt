@@ -12,10 +12,10 @@ use Rattle.model.specs.declared.Step.the-variants.{LogicalCheckpoint, Se
 use Rattle.model.specs.Notation.{upd}
 use Rattle.model.specs.Topology.{sender, hasChannel}
 use Rattle.model.specs.Channel.{bodies, messages}
-use Rattle.model.specs.State.{GlobalState}
+use Rattle.model.specs.State.{GlobalState, noCounts}
 use Rattle.model.specs.Change.{withRound, withTag, withChannel, withProgress, withCounts, inPhase, setEntries}
 use Rattle.model.specs.Change.{logicalCheckpoint, recordSent, plainChannels, endRound}
-use Rattle.model.specs.Step.{quietly, receive, afterPhysical, effect}
+use Rattle.model.specs.Step.{quietly, receive, physicalFrom, effect}
 use Rattle.model.proofs.laws.Tests.{either}
 use Rattle.model.proofs.laws.Functions.{Indices, same, other, indices, upd-same, upd-other}
 use Rattle.model.proofs.laws.Receiving.{receive-takes}
@@ -28,6 +28,11 @@ pub data Becomes (s : GlobalState) (c : ℕ) : Step → List Entry → Type 0 wh
   taken : (e : Entry) (es : List Entry) → s .channel c ≡ e ∷ es → Becomes s c (Receive c) es
   plain : Becomes s c Abort (messages false (bodies (s .channel c)))
 
+physical-channels : (from : ℕ) (s : GlobalState) → physicalFrom from s .channel ≡ s .channel
+unfolding physicalFrom inPhase withRound withProgress
+physical-channels from s =
+    either (λ (y : GlobalState). y .channel ≡ s .channel) (ltb from (s .topology .processes)) _ _ refl refl
+
 module _ (s : GlobalState) where
   -- entries put on channel d
   put : (d c : ℕ) (x : Step) (es : List Entry) → Becomes s d x es → Becomes s c x (upd (s .channel) d es c)
@@ -39,18 +44,16 @@ module _ (s : GlobalState) where
       go (other n) = rw (upd-other (s .channel) d c es n) stays
 
   pub effect-becomes : (x : Step) (c : ℕ) → Becomes s c x (effect s x .state .channel c)
-  unfolding effect quietly receive afterPhysical inPhase setEntries withChannel withRound withTag withProgress
-      withCounts logicalCheckpoint recordSent endRound plainChannels
+  unfolding effect quietly receive setEntries withChannel withRound withTag withProgress withCounts logicalCheckpoint
+      recordSent endRound plainChannels
   effect-becomes (Send d b) c = put d c (Send d b) _ (message b)
   effect-becomes (Receive d) c = go (s .channel d) refl
     where
       go : (es : List Entry) → s .channel d ≡ es → Becomes s c (Receive d) (receive s d es .state .channel c)
       go [] q = stays
       go (e ∷ es) q = rw (receive-takes s d e es) (put d c (Receive d) es (taken e es q))
-  effect-becomes Begin c = stays
-  effect-becomes (PhysicalCheckpoint p) c =
-      either (λ (y : GlobalState). Becomes s c (PhysicalCheckpoint p) (y .channel c))
-      (ltb (p + 1) (s .topology .processes)) _ _ stays stays
+  effect-becomes Begin c = rw (physical-channels 0 (withCounts noCounts s)) stays
+  effect-becomes (PhysicalCheckpoint p) c = rw (physical-channels (p + 1) s) stays
   effect-becomes (LogicalCheckpoint p) c = stays
   effect-becomes (SendMarker d) c = put d c (SendMarker d) _ marker
   effect-becomes Commit c = stays

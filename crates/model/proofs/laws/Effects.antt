@@ -12,7 +12,7 @@ use Rattle.model.specs.declared.Step.{Step}
 use Rattle.model.specs.declared.Step.the-variants.{Send, Receive, Begin, PhysicalCheckpoint}
 use Rattle.model.specs.declared.Step.the-variants.{LogicalCheckpoint, SendMarker, Commit, Abort}
 use Rattle.model.specs.Topology.{receiver}
-use Rattle.model.specs.State.{GlobalState, raisedAll}
+use Rattle.model.specs.State.{GlobalState, noCounts, raisedAll}
 use Rattle.model.specs.Change.{withRound, withWord, withTag, withChannel, withProgress, withCounts, inPhase}
 use Rattle.model.specs.Change.{setEntries}
 use Rattle.model.specs.Change.{enterMessage, logicalCheckpoint, close, recordSent, endRound}
@@ -20,7 +20,7 @@ use Rattle.model.specs.Outcome.{refused}
 use Rattle.model.specs.Heard.{heard, accepted}
 use Rattle.model.specs.Write.{Answered, underBudget}
 use Rattle.model.specs.Receive.{Reaction}
-use Rattle.model.specs.Step.{quietly, nextLine, reaction, react, receivedOutcome, receive, afterPhysical, effect}
+use Rattle.model.specs.Step.{quietly, nextLine, reaction, react, receivedOutcome, receive, physicalFrom, effect}
 use Rattle.model.specs.Step.{step, answer}
 use Rattle.model.specs.Run.{call, isCommit, countCommit}
 use Rattle.model.proofs.laws.Tests.{either}
@@ -79,16 +79,21 @@ receive-follows s c (Marker ∷ es) =
     let h = react-follows (reaction s c Marker) c (receiver (s .topology) c) s in
     record { topology = h .topology; line = h .line }
 
+physical-follows : (from : ℕ) (s : GlobalState) → Follows s (physicalFrom from s) (s .round .line)
+unfolding physicalFrom inPhase withRound withProgress
+physical-follows from s =
+    either (λ (y : GlobalState). Follows s y (s .round .line)) (ltb from (s .topology .processes)) _ _
+    (record { topology = refl; line = refl }) (record { topology = refl; line = refl })
+
 effect-follows : (budget : ℕ) (s : GlobalState) (x : Step)
     → Follows s (effect s x .state) (countCommit (call x budget) (heard (effect s x .outcome)) (s .round .line))
-unfolding effect quietly nextLine afterPhysical inPhase setEntries withChannel withRound withTag withProgress withCounts
-    logicalCheckpoint recordSent endRound countCommit isCommit
+unfolding effect quietly nextLine setEntries withChannel withRound withTag withProgress withCounts logicalCheckpoint
+    recordSent endRound countCommit isCommit
 effect-follows budget s (Send c b) = record { topology = refl; line = refl }
 effect-follows budget s (Receive c) = rw (effect-accepted s (Receive c)) (receive-follows s c (s .channel c))
-effect-follows budget s Begin = record { topology = refl; line = refl }
-effect-follows budget s (PhysicalCheckpoint p) =
-    either (λ (y : GlobalState). Follows s y (s .round .line)) (ltb (p + 1) (s .topology .processes)) _ _
-    (record { topology = refl; line = refl }) (record { topology = refl; line = refl })
+effect-follows budget s Begin =
+    let h = physical-follows 0 (withCounts noCounts s) in record { topology = h .topology; line = h .line }
+effect-follows budget s (PhysicalCheckpoint p) = physical-follows (p + 1) s
 effect-follows budget s (LogicalCheckpoint p) = record { topology = refl; line = refl }
 effect-follows budget s (SendMarker c) = record { topology = refl; line = refl }
 effect-follows budget s Commit = record { topology = refl; line = refl }

@@ -7,7 +7,7 @@ use mathlib.Core.List.{List}
 use lib.ListN.{take}
 use native.Mathlib.Omega.{arith}
 use Rattle.model.specs.declared.Phase.{Phase}
-use Rattle.model.specs.declared.Phase.the-variants.{Idle}
+use Rattle.model.specs.declared.Phase.the-variants.{Idle, Physical}
 use Rattle.model.specs.declared.Step.the-variants.{Begin}
 use Rattle.model.specs.Phase.{isIdle}
 use Rattle.model.specs.Layout.{messageLog, channelLog}
@@ -18,11 +18,14 @@ use Rattle.model.specs.Step.{effect, nextLine}
 use Rattle.model.specs.History.{History, onStep, onAccepted}
 use Rattle.model.proofs.store.Slots.{InSlot, clear-in, cleared}
 use Rattle.model.proofs.line.Values.{processAt, channelAt, slotBy, heldBy}
-use Rattle.model.proofs.line.Invariant.{ProcessHolds, ChannelHolds, Inv, Keeps, KeepsBy, KeepsLostBy}
+use Rattle.model.proofs.line.Invariant.{EndsPlanned, ProcessHolds, ChannelHolds, Inv, Keeps, KeepsBy}
+use Rattle.model.proofs.line.Invariant.{KeepsLostBy}
 use Rattle.model.proofs.line.Frames.{Spared, spared, spared-all}
 use Rattle.model.proofs.line.Phases.{is-idle, process-in, channel-in}
+use Rattle.model.proofs.line.NextPhase.{physical-from}
 
-module _ (s : GlobalState) (st : List ℕ) (h : History) (may : isIdle (s .round .phase) ≡ true) (i : Inv s st h) where
+module _ (s : GlobalState) (st : List ℕ) (h : History) (ends : EndsPlanned (s .topology))
+    (may : isIdle (s .round .phase) ≡ true) (i : Inv s st h) where
   abbrev writes : List Write
   writes = clearWrites (s .topology) (s .round .line + 1)
 
@@ -33,8 +36,8 @@ module _ (s : GlobalState) (st : List ℕ) (h : History) (may : isIdle (s .round
   phase = is-idle (s .round .phase) may
 
   -- the slot's logs are empty, and no process is saved yet
-  begun : KeepsBy s st h Begin (effect s Begin)
-  unfolding effect nextLine inPhase withRound withCounts noCounts onStep onAccepted slotBy heldBy
+  begun : Inv (inPhase (Physical 0) (withCounts noCounts s)) (writeAll st writes) h
+  unfolding inPhase withRound withCounts noCounts slotBy heldBy
   begun =
       let kept : Spared s st (writeAll st writes) = spared-all i writes into in
       let empty = cleared (s .topology) st (i .sized) (s .round .line + 1) in
@@ -69,6 +72,10 @@ module _ (s : GlobalState) (st : List ℕ) (h : History) (may : isIdle (s .round
             });
       }
 
+  lasts : KeepsBy s st h Begin (effect s Begin)
+  unfolding effect nextLine withCounts onStep onAccepted
+  lasts = physical-from (withCounts noCounts s) _ h 0 ends begun
+
   -- an idle state says nothing of the pending slot
   lost : KeepsLostBy s st h (effect s Begin)
   unfolding effect nextLine
@@ -98,4 +105,4 @@ module _ (s : GlobalState) (st : List ℕ) (h : History) (may : isIdle (s .round
       }
 
   pub begin-kept : Keeps s st h Begin
-  begin-kept = record { lasts = begun; lost = lost }
+  begin-kept = record { lasts = lasts; lost = lost }

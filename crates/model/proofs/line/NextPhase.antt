@@ -1,5 +1,5 @@
--- What follows a physical checkpoint: that of the next process, or, where none is left, the logical phase, which starts
--- with only old messages on the channels.
+-- What follows a begin and a physical checkpoint: that of the next process, or, where none is left, the logical phase,
+-- which starts with only old messages on the channels.
 use Prim.Native.Nat.{ℕ, _+_, _<_, _≤_}
 use mathlib.Core.Path.{_≡_, refl, sym, ap, subst, _∙_}
 use mathlib.Core.Bool.{Bool, true, false, cond}
@@ -14,6 +14,7 @@ use Rattle.model.specs.Channel.{bodies, messages}
 use Rattle.model.specs.Layout.{entriesFrom}
 use Rattle.model.specs.State.{GlobalState, noProgress}
 use Rattle.model.specs.Change.{inPhase, withRound, withProgress}
+use Rattle.model.specs.Step.{physicalFrom}
 use Rattle.model.specs.History.{History, Direction, sent, received}
 use Rattle.model.specs.Form as form
 use Rattle.model.proofs.laws.Tests.{true-is-not-false}
@@ -106,7 +107,8 @@ module _ (s : GlobalState) (st : List ℕ) (h : History) (q : ℕ) (ends : EndsP
       }
 
   -- process q is the next, or the logical phase starts
-  pub physical-from : Inv (cond (ltb q (s .topology .processes)) here logical) st h
+  pub physical-from : Inv (physicalFrom q s) st h
+  unfolding physicalFrom
   physical-from = go (ltb q (s .topology .processes)) refl
     where
       go : (b : Bool) → ltb q (s .topology .processes) ≡ b → Inv (cond b here logical) st h

@@ -12,7 +12,7 @@ use Rattle.model.specs.Layout.{messageLog, channelLog, entriesFrom}
 use Rattle.model.specs.State.{GlobalState}
 use Rattle.model.specs.Change.{inPhase, withRound}
 use Rattle.model.specs.Write.{Write, writeAll, physicalWrites}
-use Rattle.model.specs.Step.{effect, nextLine, afterPhysical}
+use Rattle.model.specs.Step.{effect, nextLine}
 use Rattle.model.specs.History.{History, onStep, onAccepted}
 use Rattle.model.specs.Form as form
 use Rattle.model.proofs.laws.Functions.{by-index}
@@ -133,7 +133,7 @@ module _ (s : GlobalState) (st : List ℕ) (h : History) (p : ℕ) (ends : EndsP
 module _ (s : GlobalState) (st : List ℕ) (h : History) (p : ℕ) (ends : EndsPlanned (s .topology))
     (may : MayCheckpointPhysically s p) (fits : Fits (s .topology) (s .counts)) (i : Inv s st h) where
   lasts : KeepsBy s st h (PhysicalCheckpoint p) (effect s (PhysicalCheckpoint p))
-  unfolding effect nextLine afterPhysical onStep onAccepted
+  unfolding effect nextLine onStep onAccepted
   lasts =
       physical-from s _ h (p + 1) ends
       (next-after s st h p ends (may .planned) fits i (is-next (s .round .phase) p (may .next)))

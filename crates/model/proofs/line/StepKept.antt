@@ -46,7 +46,7 @@ module _ (s : GlobalState) (st : List ℕ) (h : History) (i : Inv s st h) where
   unfolding logChecks effect quietly writeAll onStep onAccepted
   accepted-kept (Send c b) ends f p q = quiet-kept (Send c b) refl (send-kept s st h c b p ends i)
   accepted-kept (Receive c) ends f p q = receive-kept s st h c (p .planned) ends f i (p .entry) (q .0)
-  accepted-kept Begin ends f p q = begin-kept s st h (p .idle) i
+  accepted-kept Begin ends f p q = begin-kept s st h ends (p .idle) i
   accepted-kept (PhysicalCheckpoint r) ends f p q = physical-kept s st h r ends p f i
   accepted-kept (LogicalCheckpoint r) ends f p q =
       quiet-kept (LogicalCheckpoint r) refl

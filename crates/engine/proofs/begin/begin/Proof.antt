@@ -1,23 +1,22 @@
 -- `engine::begin::begin` meets its contract: refused where no round may begin, else the logs' counts are cleared and
 -- the physical phase starts.
 use Prim.Native.Nat.{_+_}
-use mathlib.Core.Path.{_≡_, sym, refl, ap, _∙_}
-use mathlib.Core.Bool.{true, false}
+use mathlib.Core.Path.{_≡_, sym, refl, ap, ap₂, _∙_}
+use mathlib.Core.Bool.{Bool, true, false, cond}
 use mathlib.Core.Option.{none, some}
 use native.Mathlib.Omega.{arith}
 use borrow.Author.Needs.{needs}
 use borrow.Author.Tests.{eq-eqb, ne-eqb, not-true, not-false}
 use lib.ListN.{length}
-use Rattle.model.specs.declared.Phase.the-variants.{Physical}
+use Rattle.model.specs.declared.Phase.{Phase}
 use Rattle.model.specs.declared.Round.{Round}
 use Rattle.model.specs.declared.Step.the-variants.{Begin}
-use Rattle.model.specs.Outcome as says
 use Rattle.model.specs.Check.{firstRefusal}
 use Rattle.model.specs.Phase.{isIdle}
-use Rattle.model.specs.State.{GlobalState}
+use Rattle.model.specs.State.{GlobalState, Progress, noProgress, noCounts}
 use Rattle.model.specs.Sound.{lastLine}
 use Rattle.model.specs.Write.{clearWrites}
-use Rattle.model.specs.Change.{inPhase, withRound, withCounts}
+use Rattle.model.specs.Change.{inPhase, withRound, withProgress, withCounts}
 use Rattle.model.specs.Step.{priorChecks, roomChecks, logChecks, ownChecks, nextLine, effect}
 use Rattle.engine.specs.declared.spot.Spot.{Spot}
 use Rattle.engine.specs.Spots.{Sees, putBack, sized}
@@ -25,6 +24,7 @@ use Rattle.engine.proofs.Clearing.{clear-length}
 use Rattle.engine.proofs.Views.{same-state}
 use Rattle.engine.proofs.Turning.{turns-refused, turns-lost, turns-done, same-result, seen-sizes}
 use Rattle.engine.proofs.Turning.{same-word, same-tag, same-channel, same-progress}
+use Rattle.engine.proofs.Phases.{goes-on}
 use Rattle.engine.proofs.begin.begin.Statement.{statement}
 use Rattle.engine.proofs.begin.begin.Tie as tie
 
@@ -88,13 +88,19 @@ returns-3 c =
     (c .stopped .ensures)
 
 returns-4 : tie.Need-returns-4
-unfolding effect inPhase withRound withCounts putBack
+unfolding effect inPhase withRound withProgress withCounts putBack
 returns-4 c =
-    let p = c .before .before .before .before .before in
-    turns-done _ _ _ _ (may p) _ _ (p .clear .ensures .store) _ refl (sym (many p)) refl (rw (many p) (c .if3 .left))
+    let f = c .before in
+    let d = f .before in
+    let p = d .before .before .before .before .before in
+    let next : Phase = f .phase-from .result in
+    turns-done _ _ _ _ (may p) _ _ (p .clear .ensures .store) _ refl (sym (many p)) refl (rw (many p) (d .if3 .left))
     (λ g v. same-result refl
-    (same-state refl (ap (λ (r : Round). record { line = r .line; phase = Physical 0 }) (v .round)) (sym (same-word v))
-    (sym (same-tag v)) (sym (same-channel v)) (sym (same-progress v)) refl)
+    (goes-on 0 (withCounts noCounts g) (v .processes) (f .phase-from .ensures)
+    ∙ same-state refl (ap (λ (r : Round). record { line = r .line; phase = next }) (v .round)) (sym (same-word v))
+    (sym (same-tag v)) (sym (same-channel v))
+    (ap₂ (λ (b : Bool) (x : Progress). cond b noProgress x) (sym (c .is-logical .ensures)) (sym (same-progress v)))
+    refl)
     (writes (s p) g v))
 
 pub begin-spec : {M : Type 1} → statement M
@@ -114,5 +120,7 @@ begin-spec =
     (λ c κs. search needs)
     (λ c. search needs)
     returns-3
+    (λ c κs. search needs)
+    (λ c κs. search needs)
     (λ c. search needs)
     returns-4)

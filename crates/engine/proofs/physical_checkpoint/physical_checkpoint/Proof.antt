@@ -1,39 +1,37 @@
 -- `engine::physical_checkpoint::physical_checkpoint` meets its contract: refused where the process is not the next one,
 -- else its word is written, and then the next process's turn or the logical phase comes.
 use Prim.Native.Nat.{ℕ, _+_, _<_}
-use mathlib.Core.Path.{_≡_, sym, refl, ap, _∙_}
-use mathlib.Core.Bool.{true, false, cond}
+use mathlib.Core.Path.{_≡_, sym, refl, ap, ap₂, _∙_}
+use mathlib.Core.Bool.{Bool, true, false, cond}
 use mathlib.Core.Option.{none, some}
 use native.Mathlib.Omega.{arith}
 use borrow.Author.Needs.{needs}
-use borrow.Author.Tests.{not-true, not-false, lt-leb, le-leb, ltb-true, ltb-false}
+use borrow.Author.Tests.{not-true, not-false, ltb-true}
 use denote.Ref.{now}
-use lib.Dec.{ltb, leb}
 use lib.ListN.{take}
 use Rattle.model.specs.declared.Phase.{Phase}
 use Rattle.model.specs.declared.Phase.the-variants.{Idle, Physical, Logical}
 use Rattle.model.specs.declared.Round.{Round}
 use Rattle.model.specs.declared.Step.the-variants.{PhysicalCheckpoint}
-use Rattle.model.specs.Outcome as says
 use Rattle.model.specs.Check.{firstRefusal}
 use Rattle.model.specs.Topology.{processLimit, hasProcess}
 use Rattle.model.specs.Phase.{isIdle, isNext}
-use Rattle.model.specs.State.{GlobalState, noProgress}
+use Rattle.model.specs.State.{GlobalState, Progress, noProgress}
 use Rattle.model.specs.Write.{writeAll, physicalWrites}
 use Rattle.model.specs.Change.{inPhase, withRound, withProgress}
-use Rattle.model.specs.Step.{priorChecks, roomChecks, logChecks, ownChecks, nextLine, afterPhysical, effect}
+use Rattle.model.specs.Step.{priorChecks, roomChecks, logChecks, ownChecks, nextLine, effect}
 use Rattle.model.specs.Layout.{present, physicalCell}
-use Rattle.model.proofs.laws.Tests.{true-is-not-false, Tested, holds, fails, test}
+use Rattle.model.proofs.laws.Tests.{true-is-not-false}
 use Rattle.model.proofs.store.Sizes.{Sized}
 use Rattle.model.proofs.store.Addresses.{in-store, physical-within}
 use Rattle.engine.specs.declared.spot.Spot.{Spot}
-use Rattle.engine.specs.Answers.{roundAfter}
 use Rattle.engine.specs.Spent.{oneWrite}
 use Rattle.engine.specs.Spots.{Sees, putBack}
 use Rattle.engine.specs.Spots as spots
 use Rattle.engine.proofs.Views.{same-state}
 use Rattle.engine.proofs.Turning.{Found, found, turns-refused, turns-lost, turns-done, same-result, next-line}
 use Rattle.engine.proofs.Turning.{seen-sizes, same-word, same-tag, same-channel, same-progress, same-counts}
+use Rattle.engine.proofs.Phases.{goes-on}
 use Rattle.engine.proofs.physical_checkpoint.physical_checkpoint.Statement.{statement}
 use Rattle.engine.proofs.physical_checkpoint.physical_checkpoint.Tie as tie
 
@@ -66,31 +64,6 @@ module _ (s : Spot) (g : GlobalState) (v : Sees g (PhysicalCheckpoint (s .proces
       ≡ oneWrite (physicalCell (s .round .line + 1) (s .process)) (s .word)
   unfolding effect physicalWrites nextLine
   writes = rw (v .round, v .word)
-
-  -- the next process's turn, or the logical phase
-  moved : (r : Round) → r ≡ roundAfter (s .round) (s .process) (s .processes)
-      → Tested (ltb (s .process + 1) (s .processes))
-      → afterPhysical g (s .process)
-      ≡ record {
-        topology = g .topology;
-        round = r;
-        word = g .word;
-        tag = g .tag;
-        channel = g .channel;
-        progress = cond (leb (s .processes) (s .process + 1)) noProgress (g .progress);
-        counts = g .counts;
-      }
-  unfolding afterPhysical inPhase withRound withProgress
-  moved r e (holds l) =
-      rw (v .processes, l, lt-leb (s .processes) (s .process + 1) (ltb-true _ _ l))
-      (same-state refl
-      (ap (λ (q : Round). record { line = q .line; phase = Physical (s .process + 1) }) (v .round) ∙ sym (rw l at e))
-      refl refl refl refl refl)
-  moved r e (fails l) =
-      rw (v .processes, l, le-leb (s .processes) (s .process + 1) (ltb-false _ _ l))
-      (same-state refl
-      (ap (λ (q : Round). record { line = q .line; phase = Logical }) (v .round) ∙ sym (rw l at e))
-      refl refl refl refl refl)
 
 returns : tie.Need-returns
 returns c =
@@ -152,15 +125,18 @@ abbrev lasted : tie.Else2 → tie.After-put
 lasted d = d .before .before .before
 
 returns-3 : tie.Need-returns-3
-unfolding effect putBack
+unfolding effect inPhase withRound withProgress putBack
 returns-3 c =
-    let q = c .before .before in
-    let p = lasted (q .before) in
-    turns-done _ _ _ _ (λ g v. passed _ g v (next (e p))) _ _ (written p) _ refl refl refl (q .before .if2 .left)
+    let f = c .before in
+    let d = f .before .before in
+    let p = lasted d in
+    let on : Phase = f .phase-from .result in
+    turns-done _ _ _ _ (λ g v. passed _ g v (next (e p))) _ _ (written p) _ refl refl refl (d .if2 .left)
     (λ g v. same-result refl
-    (moved (s (e p)) g v (q .round-after .result) (q .round-after .ensures) (test _)
-    ∙ same-state refl refl (sym (same-word v)) (sym (same-tag v)) (sym (same-channel v))
-    (ap (cond (leb (s (e p) .processes) (s (e p) .process + 1)) noProgress) (sym (same-progress v)))
+    (goes-on (s (e p) .process + 1) g (v .processes) (f .phase-from .ensures)
+    ∙ same-state refl (ap (λ (r : Round). record { line = r .line; phase = on }) (v .round)) (sym (same-word v))
+    (sym (same-tag v)) (sym (same-channel v))
+    (ap₂ (λ (b : Bool) (x : Progress). cond b noProgress x) (sym (c .is-logical .ensures)) (sym (same-progress v)))
     (sym (same-counts v)))
     (writes _ g v))
 
@@ -177,7 +153,8 @@ physical-checkpoint-spec =
     (λ c κs. search needs)
     (λ c. search needs)
     returns-2
-    (λ c κs. below (e (lasted c)))
-    (λ c. omega (arith, below (e (lasted (c .before .before)))))
+    (λ c. omega (arith, below (e (lasted (c .before)))))
+    (λ c κs. search needs)
+    (λ c κs. search needs)
     (λ c. search needs)
     returns-3)
