@@ -1,3 +1,4 @@
 -- Laws that the proofs cite.
 pub mod EndsPass
 pub mod EndsSeen
+pub mod Testing

@@ -1,3 +1,4 @@
 -- What the functions of rules promise in terms of the model's definitions.
 pub mod Ends
+pub mod Fields
 pub mod Reacting

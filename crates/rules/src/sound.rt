@@ -14,19 +14,41 @@ ghost use lib.Dec.{leb};
 ghost use Rattle.model.specs.Notation.{allBelow};
 ghost use Rattle.model.specs.State.{view};
 ghost use Rattle.model.specs.Sound.{phaseSound, lineSound, sound};
+ghost use Rattle.rules.specs.Fields.{soundByFields};
+
+// Whether a channel is sound, by what a state has of it: how many entries it holds.
+fn channel_sound(length: u8) -> bool
+    ensures { λ r. ⌜ r ≡ soundByFields length ⌝ }
+{
+    length <= channel::ROOM
+}
+
+// Whether each of the first n channels is sound. No loop here ends early, so that LLVM can test many at a time.
+fn channels_sound(lengths: &[u8], n: u8) -> bool
+    requires { ⌜ n ≤ length (now lengths) ⌝ }
+    ensures { λ r. ⌜ r ≡ allBelow n (λ c. soundByFields (getD (now (lengths .entry)) c 0)) ⌝ }
+{
+    let mut so = true;
+    let mut c: usize = 0;
+    while c < n as usize {
+        so = so & channel_sound(lengths[c]);
+        c += 1;
+    }
+    so
+}
 
 // Whether each of the first n counts is at most the limit: the logs of the topology's processes, or of its channels.
 fn at_most(counts: &[u8], n: u8, limit: u8) -> bool
     requires { ⌜ n ≤ length (now counts) ⌝ }
     ensures { λ r. ⌜ r ≡ allBelow n (λ i. leb (getD (now (counts .entry)) i 0) limit) ⌝ }
 {
-    let mut fit = true;
+    let mut so = true;
     let mut i: usize = 0;
     while i < n as usize {
-        fit = fit & (counts[i] <= limit);
+        so = so & (counts[i] <= limit);
         i += 1;
     }
-    fit
+    so
 }
 
 // Whether the next process to have its physical checkpoint, if any, is in the topology.
@@ -60,7 +82,7 @@ pub fn sound(s: State) -> bool
     let counts = s.counts;
     let round = s.round;
     let phase = round.phase;
-    let channels = at_most(&lengths, t.channels, channel::ROOM);
+    let channels = channels_sound(&lengths, t.channels);
     let messages = at_most(&counts.messages, t.processes, layout::MESSAGE_PLACES);
     let logs = at_most(&counts.channels, t.channels, layout::CHANNEL_PLACES);
     channels & messages & logs & phase_sound(t, phase) & line_sound(round)

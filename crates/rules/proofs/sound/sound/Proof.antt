@@ -9,12 +9,10 @@ use native.Mathlib.Omega.{arith}
 use borrow.Author.Needs.{needs}
 use borrow.Author.Tests.{not-true, not-false}
 use lib.ListN.{length, getD}
-use lib.Dec.{leb}
 use Rattle.model.specs.declared.State.{State}
 use Rattle.model.specs.Notation.{allTrue, allBelow}
 use Rattle.model.specs.Check.{accepts}
 use Rattle.model.specs.Topology.{channelLimit, topologyRefusal}
-use Rattle.model.specs.Channel.{channelRoom}
 use Rattle.model.specs.Layout.{messageLog, channelLog}
 use Rattle.model.specs.State.{GlobalState, view, viewCounts}
 use Rattle.model.specs.Sound.{topologySound, channelSound, channelSoundBy, logSound, phaseSound, lineSound, soundBy}
@@ -23,18 +21,15 @@ use Rattle.model.proofs.laws.Functions.{length-of}
 use Rattle.model.proofs.laws.ChannelLaws.{entries-count}
 use Rattle.model.proofs.laws.Tests.{true-is-not-false}
 use Rattle.model.proofs.laws.TopologyLaws.{SizesFit, accepted-sizes}
+use Rattle.rules.specs.Fields.{soundByFields}
 use Rattle.rules.proofs.sound.sound.Statement.{statement}
 use Rattle.rules.proofs.sound.sound.Tie as tie
 
--- each of the first n counts is at most the limit
-abbrev atMost : ℕ → ℕ → (ℕ → ℕ) → Bool
-atMost n limit f = allBelow n (λ i. leb (f i) limit)
-
--- a channel is sound by its length
+-- a channel is sound by its fields
 channels-told : (s : State) (n : ℕ)
-    → allBelow n (channelSoundBy channelSound (view s)) ≡ atMost n channelRoom (λ c. getD (s .lengths) c 0)
+    → allBelow n (λ c. soundByFields (getD (s .lengths) c 0)) ≡ allBelow n (channelSoundBy channelSound (view s))
 unfolding channelSoundBy channelSound view
-channels-told s n = ap (allBelow n) (fun-ext (λ c. ap (λ (l : ℕ). leb l channelRoom) (entries-count _)))
+channels-told s n = ap (allBelow n) (fun-ext (λ c. ap soundByFields (sym (entries-count _))))
 
 -- the definition's clauses, joined as the code has them
 regroup : (a b c d e : Bool) → ((((a && b) && c) && d) && e) ≡ allTrue (a ∷ b ∷ c ∷ d ∷ e ∷ [])
@@ -84,14 +79,14 @@ returns c =
     sym (c .before .passes .ensures) ∙ not-true _ (c .if1 .taken) in
     rw not-so
 
--- where the lengths, the message logs and the channel logs were looked through
-abbrev first : tie.After-at-most → tie.Else1
+-- where the channels, the message logs and the channel logs were looked through
+abbrev first : tie.After-channels-sound → tie.Else1
 first a = a .before .before .before .before .before
 
-abbrev second : tie.After-at-most2 → tie.After-at-most
+abbrev second : tie.After-at-most → tie.After-channels-sound
 second a = a .before .before .before .before
 
-abbrev third : tie.After-at-most3 → tie.After-at-most2
+abbrev third : tie.After-at-most2 → tie.After-at-most
 third a = a .before .before .before .before
 
 returns-2 : tie.Need-returns-2
@@ -101,8 +96,8 @@ returns-2 c =
     let b = third a in
     let d = second b in
     let p = first d in
-    by-clauses (view (s p)) _ _ _ _ _ (passes p) (d .at-most .ensures ∙ sym (channels-told (s p) _))
-    (b .at-most2 .ensures) (a .at-most3 .ensures) (c .before .phase-sound .ensures) (c .line-sound .ensures)
+    by-clauses (view (s p)) _ _ _ _ _ (passes p) (d .channels-sound .ensures ∙ channels-told (s p) _)
+    (b .at-most .ensures) (a .at-most2 .ensures) (c .before .phase-sound .ensures) (c .line-sound .ensures)
 
 pub sound-spec : {M : Type 1} → statement M
 sound-spec =
