@@ -9,7 +9,7 @@ use Rattle.model.specs.declared.Topology.{Topology}
 use Rattle.model.specs.Notation.{allBelow, firstBelow}
 use Rattle.model.specs.Check.{accepts, firstRefusal}
 use Rattle.model.specs.Topology.{sender, receiver, hasProcess, sameEnds, channelRefusal}
-use Rattle.model.proofs.laws.Tests.{and-left, and-right}
+use Rattle.model.proofs.laws.Tests.{true-is-not-false, and-left, and-right}
 use Rattle.rules.specs.Ends.{joinsTwo, apart}
 
 -- the ends of a channel that joins two processes
@@ -22,9 +22,15 @@ ends-known T c e =
     let two = and-left (from && to) (not (eqb (sender T c) (receiver T c))) e in
     (ltb-true _ _ (and-left from to two), ltb-true _ _ (and-right from to two))
 
+pub accepts-none : (o : Option ℕ) → accepts o ≡ true → o ≡ none
+unfolding accepts
+accepts-none none e = refl
+accepts-none (some r) e = true-is-not-false e refl
+
 -- the three checks of a channel, by their tests
 three : (known same near : Bool)
-    → accepts (cond (not known) (some 3) (cond same (some 4) (cond (not near) (some 5) none))) ≡ ((known && not same) && near)
+    → accepts (cond (not known) (some 3) (cond same (some 4) (cond (not near) (some 5) none)))
+    ≡ ((known && not same) && near)
 unfolding accepts
 three false same near = refl
 three true true near = refl

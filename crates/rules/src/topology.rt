@@ -1,4 +1,5 @@
-// The checks of a topology (document 01's plan), refusals 1 to 5, in one pass over its channels.
+// The checks of a topology (document 01's plan), refusals 1 to 5: first whether it passes, as fast as can be, since
+// every step asks that; and only where it doesn't, what refuses it.
 use model::CHANNELS;
 use model::PROCESSES;
 use model::Refusal;
@@ -11,7 +12,8 @@ ghost use Rattle.model.specs.Notation.{allBelow};
 ghost use Rattle.model.specs.Outcome.{refusalOf};
 ghost use Rattle.model.specs.Sound.{topologySound};
 ghost use Rattle.rules.specs.Ends.{joinsTwo, apart};
-ghost use Rattle.model.specs.Topology.{processLimit, channelLimit, sizeRefusal, channelsRefusal, topologyRefusal};
+ghost use Rattle.model.specs.Topology.{processLimit, channelLimit};
+ghost use Rattle.model.specs.Topology.{sizeRefusal, channelRefusal, channelsRefusal, topologyRefusal};
 
 // How many pairs of processes there are.
 const PAIRS: usize = PROCESSES * PROCESSES;
@@ -27,49 +29,6 @@ pub fn sizes(processes: u8, channels: u8) -> Verdict
         return Verdict::Refuse(Refusal::ChannelCount);
     }
     Verdict::Pass
-}
-
-// Where the table of ends has the channels between two processes.
-fn place(from: u8, to: u8) -> usize
-    requires { ⌜ (from < processLimit) × (to < processLimit) ⌝ }
-    ensures { λ r. ⌜ r ≡ processLimit * from + to ⌝ }
-{
-    PROCESSES * (from as usize) + to as usize
-}
-
-// Refusals 3 to 5: the first channel that offends decides. The table says which ends a channel has had so far.
-fn channels(t: Topology) -> Verdict
-    requires { ⌜ (t .processes ≤ processLimit) × (t .channels ≤ channelLimit) ⌝ }
-    ensures { λ r. ⌜ refusalOf r ≡ channelsRefusal t ⌝ }
-{
-    let mut seen = [false; PAIRS];
-    let mut c: usize = 0;
-    while c < t.channels as usize {
-        let from = t.from[c];
-        let to = t.to[c];
-        if t.processes <= from || t.processes <= to {
-            return Verdict::Refuse(Refusal::UnknownEnd);
-        }
-        if from == to {
-            return Verdict::Refuse(Refusal::SelfChannel);
-        }
-        if seen[place(from, to)] {
-            return Verdict::Refuse(Refusal::DoubledChannel);
-        }
-        seen[place(from, to)] = true;
-        c += 1;
-    }
-    Verdict::Pass
-}
-
-// Refusals 1 to 5, of any topology whatever.
-pub fn check(t: Topology) -> Verdict
-    ensures { λ r. ⌜ refusalOf r ≡ topologyRefusal t ⌝ }
-{
-    match sizes(t.processes, t.channels) {
-        Verdict::Pass => channels(t),
-        Verdict::Refuse(r) => Verdict::Refuse(r),
-    }
 }
 
 // Whether every channel joins two different processes of the topology.
@@ -88,9 +47,19 @@ fn joined(t: Topology) -> bool
     so
 }
 
-// Whether no two channels have the same ends in the same direction.
+// Where the table of ends has the channels between two processes.
+fn place(from: u8, to: u8) -> usize
+    requires { ⌜ (from < processLimit) × (to < processLimit) ⌝ }
+    ensures { λ r. ⌜ r ≡ processLimit * from + to ⌝ }
+{
+    PROCESSES * (from as usize) + to as usize
+}
+
+// Whether no two channels have the same ends in the same direction, where every channel joins two processes. The table
+// says which ends a channel has had so far.
 fn distinct(t: Topology) -> bool
-    requires { ⌜ (t .processes ≤ processLimit) × (t .channels ≤ channelLimit) × (allBelow (t .channels) (joinsTwo t) ≡ true) ⌝ }
+    requires { ⌜ (t .processes ≤ processLimit) × (t .channels ≤ channelLimit)
+        × (allBelow (t .channels) (joinsTwo t) ≡ true) ⌝ }
     ensures { λ r. ⌜ r ≡ allBelow (t .channels) (apart t) ⌝ }
 {
     let mut seen = [false; PAIRS];
@@ -105,7 +74,7 @@ fn distinct(t: Topology) -> bool
     so
 }
 
-// Whether a topology, any whatever, passes refusals 1 to 5: check without the number, and with no way out of its loops.
+// Whether a topology, any whatever, passes refusals 1 to 5.
 pub fn passes(t: Topology) -> bool
     ensures { λ r. ⌜ r ≡ topologySound t ⌝ }
 {
@@ -116,4 +85,67 @@ pub fn passes(t: Topology) -> bool
         return false;
     }
     distinct(t)
+}
+
+// Whether no channel before channel c has its ends in its direction.
+fn apart(t: Topology, c: u8) -> bool
+    requires { ⌜ c < channelLimit ⌝ }
+    ensures { λ r. ⌜ r ≡ apart t c ⌝ }
+{
+    let from = t.from[c as usize];
+    let to = t.to[c as usize];
+    let mut so = true;
+    let mut d: usize = 0;
+    while d < c as usize {
+        so = so & !((t.from[d] == from) & (t.to[d] == to));
+        d += 1;
+    }
+    so
+}
+
+// Refusals 3 to 5 of one channel.
+fn channel(t: Topology, c: u8) -> Verdict
+    requires { ⌜ c < channelLimit ⌝ }
+    ensures { λ r. ⌜ refusalOf r ≡ channelRefusal t c ⌝ }
+{
+    let from = t.from[c as usize];
+    let to = t.to[c as usize];
+    if !((from < t.processes) & (to < t.processes)) {
+        return Verdict::Refuse(Refusal::UnknownEnd);
+    }
+    if from == to {
+        return Verdict::Refuse(Refusal::SelfChannel);
+    }
+    if !apart(t, c) {
+        return Verdict::Refuse(Refusal::DoubledChannel);
+    }
+    Verdict::Pass
+}
+
+// Refusals 3 to 5: the first channel that offends decides.
+fn channels(t: Topology) -> Verdict
+    requires { ⌜ t .channels ≤ channelLimit ⌝ }
+    ensures { λ r. ⌜ refusalOf r ≡ channelsRefusal t ⌝ }
+{
+    let mut c: u8 = 0;
+    while c < t.channels {
+        if let Verdict::Refuse(r) = channel(t, c) {
+            return Verdict::Refuse(r);
+        }
+        c += 1;
+    }
+    Verdict::Pass
+}
+
+// Refusals 1 to 5, of any topology whatever.
+pub fn check(t: Topology) -> Verdict
+    ensures { λ r. ⌜ refusalOf r ≡ topologyRefusal t ⌝ }
+{
+    if passes(t) {
+        return Verdict::Pass;
+    }
+    match sizes(t.processes, t.channels) {
+        Verdict::Pass => channels(t),
+        Verdict::Refuse(r) => Verdict::Refuse(r),
+    }
 }

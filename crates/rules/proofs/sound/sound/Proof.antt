@@ -1,8 +1,7 @@
 -- `rules::sound::sound` meets its contract: the topology is refused, or each clause of the definition is one of the
 -- code's tests.
-use Prim.Native.Nat.{ℕ, _≤_}
+use Prim.Native.Nat.{ℕ}
 use mathlib.Core.Path.{_≡_, refl, sym, ap, fun-ext, _∙_}
-use mathlib.Core.Option.{Option, none, some}
 use mathlib.Core.Bool.{Bool, true, false, _&&_}
 use mathlib.Core.List.{[], _∷_}
 use native.Mathlib.Omega.{arith}
@@ -11,7 +10,6 @@ use borrow.Author.Tests.{not-true, not-false}
 use lib.ListN.{length, getD}
 use Rattle.model.specs.declared.State.{State}
 use Rattle.model.specs.Notation.{allTrue, allBelow}
-use Rattle.model.specs.Check.{accepts}
 use Rattle.model.specs.Topology.{channelLimit, topologyRefusal}
 use Rattle.model.specs.Layout.{messageLog, channelLog}
 use Rattle.model.specs.State.{GlobalState, view, viewCounts}
@@ -19,9 +17,9 @@ use Rattle.model.specs.Sound.{topologySound, channelSound, channelSoundBy, logS
 use Rattle.model.specs.Sound.{sound}
 use Rattle.model.proofs.laws.Functions.{length-of}
 use Rattle.model.proofs.laws.ChannelLaws.{entries-count}
-use Rattle.model.proofs.laws.Tests.{true-is-not-false}
 use Rattle.model.proofs.laws.TopologyLaws.{SizesFit, accepted-sizes}
 use Rattle.rules.specs.Fields.{soundByFields}
+use Rattle.rules.proofs.EndsPass.{accepts-none}
 use Rattle.rules.proofs.sound.sound.Statement.{statement}
 use Rattle.rules.proofs.sound.sound.Tie as tie
 
@@ -40,11 +38,6 @@ regroup true true false d e = refl
 regroup true true true false e = refl
 regroup true true true true false = refl
 regroup true true true true true = refl
-
-accepts-none : (o : Option ℕ) → accepts o ≡ true → o ≡ none
-unfolding accepts
-accepts-none none e = refl
-accepts-none (some r) e = true-is-not-false e refl
 
 -- past the topology's check
 module _ (p : tie.Else1) where

@@ -1,39 +1,35 @@
--- `rules::topology::check` meets its contract: 1 and 2 where they refuse, else what 3 to 5 say.
+-- `rules::topology::check` meets its contract: what passes has no refusal; else it is 1 or 2, or what 3 to 5 say.
 use mathlib.Core.Path.{sym, ap, _∙_}
 use mathlib.Core.Option.{orElse}
 use borrow.Author.Needs.{needs}
 use Rattle.model.specs.Topology.{topologyRefusal}
 use Rattle.model.specs.Outcome.{refusalOf}
+use Rattle.model.specs.Sound.{topologySound}
 use Rattle.model.proofs.laws.TopologyLaws.{sizes}
+use Rattle.rules.proofs.EndsPass.{accepts-none}
 use Rattle.rules.proofs.topology.check.Statement.{statement}
 use Rattle.rules.proofs.topology.check.Tie as tie
 
-channels-requires : tie.Need-channels-requires
+passes : tie.Need-returns
+unfolding refusalOf topologySound
+passes c = sym (accepts-none _ (sym (c .before .passes .ensures) ∙ c .if1 .taken))
+
+few : tie.Need-channels-requires
 unfolding refusalOf
-channels-requires c κs =
-    let s = c .before .before in
-    let fit = sizes _ _ (sym (s .sizes .ensures) ∙ ap refusalOf (c .enum-told .given .1)) in
-    (fit .processes, fit .channels)
+few c κs = sizes _ _ (sym (c .before .before .sizes .ensures) ∙ ap refusalOf (c .enum-told .given .1)) .channels
 
-returns : tie.Need-returns
+by-channels : tie.Need-returns-2
 unfolding refusalOf topologyRefusal orElse
-returns c =
-    let s = c .before .before .before in
-    c .channels .ensures ∙ rw (← (s .sizes .ensures), c .before .enum-told .given .1)
+by-channels c =
+    let told = c .before in
+    c .channels .ensures ∙ rw (← (told .before .before .sizes .ensures), told .enum-told .given .1)
 
-returns-2 : tie.Need-returns-2
+by-sizes : tie.Need-returns-3
 unfolding refusalOf topologyRefusal orElse
-returns-2 c =
-    let s = c .before .before .before in
-    rw (← (s .sizes .ensures), c .before .r .given .1)
+by-sizes c = let r = c .before in rw (← (r .before .before .sizes .ensures), r .r .given .1)
 
 pub check-spec : {M : Type 1} → statement M
 check-spec =
     tie.close
-    (tie.spec
-    (λ c κs. search needs)
-    (λ c. search needs)
-    channels-requires
-    (λ c. search needs)
-    returns
-    returns-2)
+    (tie.spec (λ c κs. search needs) passes (λ c κs. search needs) (λ c. search needs) few (λ c. search needs)
+    by-channels by-sizes)
