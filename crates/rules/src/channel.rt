@@ -1,13 +1,19 @@
-// A channel (document 01's wire) by value: what a place holds, how much room is left, and a channel with no entry.
+// A channel (document 01's wire) by value: what it is made of, its entries, and how much room is left. No other crate
+// reads a channel's places or count but through here.
 use model::Channel;
 use model::Entry;
 use model::Places;
 ghost use mathlib.Core.Path.{_≡_};
-ghost use Rattle.model.specs.Channel.{held, placesOf, entryOf, entryAt, entries, roomLeft};
+ghost use lib.ListN.{length};
+ghost use Rattle.model.specs.Channel.{held, placesOf, entryOf, entryAt, entries};
+ghost use Rattle.model.specs.Channel.{roomLeft, noRoomForMessage, noRoomForMarker};
 ghost use Rattle.model.specs.State.{noPlaces, emptyChannel};
 
-// How many entries a channel has room for, as a count.
-pub const ROOM: u8 = model::CHANNEL_ROOM as u8;
+// How many entries a channel has room for, by the rules.
+pub const ROOM: u8 = 8;
+
+// How many places its arrays have, as a count.
+const PLACES: u8 = model::CHANNEL_ROOM as u8;
 
 // Places with nothing in them, and a channel with no entry.
 pub fn blank() -> Places
@@ -25,7 +31,7 @@ pub fn empty() -> Channel
     held(blank(), 0)
 }
 
-// The channel that places hold, of which so many are used; and a channel's places.
+// The channel that places hold, of which so many are used; and a channel's places, and how many it uses.
 pub fn held(places: Places, count: u8) -> Channel
     ensures { λ r. ⌜ r ≡ held places count ⌝ }
 {
@@ -46,6 +52,12 @@ pub fn places(c: Channel) -> Places
     Places { bodies, kinds }
 }
 
+pub fn used(c: Channel) -> u8
+    ensures { λ r. ⌜ r ≡ c .count ⌝ }
+{
+    c.count
+}
+
 // What a place's kind and body mean.
 fn entry_of(kind: u8, body: u32) -> Entry
     ensures { λ r. ⌜ r ≡ entryOf kind body ⌝ }
@@ -61,19 +73,40 @@ fn entry_of(kind: u8, body: u32) -> Entry
 pub fn entry_at(c: Channel, i: u8) -> Entry
     ensures { λ r. ⌜ r ≡ entryAt c i ⌝ }
 {
-    if ROOM <= i {
+    if PLACES <= i {
         return entry_of(0, 0);
     }
     let at = i as usize;
     entry_of(c.kinds[at], c.bodies[at])
 }
 
+// How many entries a channel holds.
+pub fn length(c: Channel) -> u8
+    ensures { λ r. ⌜ r ≡ length (entries c) ⌝ }
+{
+    c.count
+}
+
 // How many entries a channel can still hold.
 pub fn room(c: Channel) -> u8
     ensures { λ r. ⌜ r ≡ roomLeft (entries c) ⌝ }
 {
-    if ROOM <= c.count {
+    let held = length(c);
+    if ROOM <= held {
         return 0;
     }
-    ROOM - c.count
+    ROOM - held
+}
+
+// Refusal 9: whether there is no room for one more message, and whether there is none for a marker.
+pub fn no_room_for_message(c: Channel) -> bool
+    ensures { λ r. ⌜ r ≡ noRoomForMessage (entries c) ⌝ }
+{
+    room(c) == 0
+}
+
+pub fn no_room_for_marker(c: Channel) -> bool
+    ensures { λ r. ⌜ r ≡ noRoomForMarker (entries c) ⌝ }
+{
+    room(c) == 0
 }
