@@ -13,7 +13,7 @@ use model::Channel;
 use model::Entry;
 use model::Outcome;
 use model::Refusal;
-use rules::channel::entry_at;
+use rules::channel;
 use rules::refusal::number;
 ghost use Prim.Native.Nat.{_+_, _*_};
 ghost use mathlib.Core.Path.{_≡_};
@@ -162,10 +162,11 @@ pub fn cell_line(out: &mut [u8], at: usize, i: u32, v: u32) -> usize
 fn messages(c: Channel) -> u32
     ensures { λ r. ⌜ r ≡ length (bodies (entries c)) ⌝ }
 {
+    let entries = channel::length(c);
     let mut n = 0;
     let mut i: u8 = 0;
-    while i < c.count {
-        let e = entry_at(c, i);
+    while i < entries {
+        let e = channel::entry_at(c, i);
         if let Entry::Message { body: _, tag: _ } = e {
             n += 1;
         }
@@ -176,13 +177,14 @@ fn messages(c: Channel) -> u32
 
 // The bodies of a channel's messages, each after a space.
 fn bodies(out: &mut [u8], at: usize, c: Channel) -> usize
-    ensures { λ r. ⌜ Appends (c .count * valueBytes) (now (out .entry)) at
+    ensures { λ r. ⌜ Appends (length (entries c) * valueBytes) (now (out .entry)) at
         (values (bodies (entries c))) (now (out .exit)) r ⌝ }
 {
+    let entries = channel::length(c);
     let mut next = at;
     let mut i: u8 = 0;
-    while i < c.count {
-        let e = entry_at(c, i);
+    while i < entries {
+        let e = channel::entry_at(c, i);
         if let Entry::Message { body, tag: _ } = e {
             next = value(out, next, body);
         }

@@ -1,6 +1,7 @@
 -- `report::channel_line` meets its contract.
 use borrow.Author.Needs.{needs}
 use native.Mathlib.Omega.{arith}
+use Rattle.model.proofs.laws.ChannelLaws.{entries-count}
 use Rattle.report.proofs.Appending.{_then_, at-most}
 use Rattle.report.proofs.Texts.{values-two}
 use Rattle.report.proofs.channel_line.Statement.{statement}
@@ -21,7 +22,7 @@ returns c =
     then count .value2 .ensures
     then list .bodies .ensures
     then end .bytes2 .ensures)
-    (omega (arith, start .good)))
+    (omega (arith, start .good, entries-count (start .args .channel))))
 
 pub channel-line-spec : {M : Type 1} → statement M
 channel-line-spec =

@@ -8,20 +8,20 @@ use lib.ListN.{length, length-append}
 use Rattle.model.specs.declared.Channel.{Channel}
 use Rattle.model.specs.Notation.{tabulate}
 use Rattle.model.specs.Channel.{entries, bodies}
-use Rattle.model.proofs.laws.ChannelLaws.{bodiesBelow, message-more, marker-more}
+use Rattle.model.proofs.laws.ChannelLaws.{entries-count, bodiesBelow, message-more, marker-more}
 use Rattle.report.proofs.messages.Statement.{statement}
 use Rattle.report.proofs.messages.Tie as tie
 
-record Counted (c : Channel) (n i : ℕ) : Type 0 where
-  places : i ≤ c .count
+record Counted (c : Channel) (all n i : ℕ) : Type 0 where
+  places : i ≤ all
   few : n ≤ i
   messages : n ≡ length (bodiesBelow i c)
 
 abbrev Inv-loop : tie.InvT-loop
-Inv-loop c n₀ i₀ n i = Counted c n i
+Inv-loop c all n₀ i₀ n i = Counted c all n i
 
 abbrev μ-loop : tie.MeasureT-loop
-μ-loop c n₀ i₀ n i = c .count - i
+μ-loop c all n₀ i₀ n i = all - i
 
 loop-holds : tie.Need-loop-holds Inv-loop μ-loop
 unfolding tabulate bodies
@@ -29,9 +29,9 @@ loop-holds c = record { places = omega arith; few = omega arith; messages = refl
 
 loop-again : tie.Need-loop-again Inv-loop μ-loop
 loop-again c =
-    let at = c .before .before .before .before in
+    let at = c .before .before .before in
     let l = at .loop in
-    let from = at .before .args .c in
+    let from = at .before .before .args .c in
     let here = c .before .entry-at .ensures in
     ⊎-elim
     (λ w.
@@ -46,12 +46,13 @@ loop-again c =
 returns : tie.Need-returns Inv-loop μ-loop
 unfolding entries
 returns c =
-    let at = c .before .before in
-    let e : at .loop .i ≡ at .before .args .c .count = omega arith in
+    let at = c .before in
+    let from = at .before .before .args .c in
+    let e : at .loop .i ≡ from .count = omega (arith, at .before .length .ensures, entries-count from) in
     rw e at (at .loop .inv .messages)
 
 pub messages-spec : {M : Type 1} → statement M
 messages-spec =
     tie.close
-    (tie.spec Inv-loop μ-loop loop-holds (λ c κs. search needs) (λ c. search needs) (λ c. search needs)
+    (tie.spec Inv-loop μ-loop (λ c κs. search needs) loop-holds (λ c κs. search needs) (λ c. search needs) (λ c. search needs)
     (λ c. search needs) (λ c. search needs) (λ c. search needs) loop-again returns)
