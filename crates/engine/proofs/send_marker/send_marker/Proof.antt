@@ -1,22 +1,21 @@
 -- `engine::send_marker::send_marker` meets its contract, in each of its cases.
 use borrow.Author.Needs.{needs}
-use borrow.Author.Tests.{eq-eqb, ne-eqb, not-true, not-false}
-use Prim.Native.Nat.{ℕ}
+use borrow.Author.Tests.{not-true, not-false}
 use mathlib.Core.Path.{_≡_, refl, sym, ap, _∙_}
-use mathlib.Core.Bool.{Bool, true, false, not, _&&_}
+use mathlib.Core.Bool.{Bool, true, false, cond, not, _&&_}
 use mathlib.Core.Option.{none, some}
 use Rattle.model.specs.declared.Step.the-variants.{SendMarker}
 use Rattle.model.specs.Outcome as says
 use Rattle.model.specs.Check.{firstRefusal}
 use Rattle.model.specs.Topology.{sender, hasChannel}
 use Rattle.model.specs.Phase.{isLogical}
-use Rattle.model.specs.Channel.{roomLeft, entries, noRoomForMarker}
+use Rattle.model.specs.Channel.{entries, noRoomForMarker}
 use Rattle.model.specs.State.{GlobalState}
 use Rattle.model.specs.Change.{setEntries, recordSent, withChannel, withProgress, withSent}
 use Rattle.model.specs.Step.{maySendMarker, priorChecks, roomChecks, logChecks, ownChecks, effect, quietly}
+use Rattle.rules.proofs.Room.{place-for-marker}
 use Rattle.engine.specs.declared.spot.Spot.{Spot}
 use Rattle.engine.specs.Spots.{Sees, putBack}
-use Rattle.engine.proofs.Bounds.{place-free}
 use Rattle.engine.proofs.Views.{same-state}
 use Rattle.engine.proofs.Turning.{Found, found, quiet-refused, quiet-went}
 use Rattle.engine.proofs.Turning.{same-flags, same-word, same-tag, same-logical, same-closed, same-counts}
@@ -41,14 +40,10 @@ module _ (s : Spot) (g : GlobalState) (v : Sees g (SendMarker (s .channel)) s) w
   unfolding ownChecks priorChecks roomChecks logChecks firstRefusal
   not-now e = rw (here .holds, decided, e)
 
-  module _ (e : may s ≡ true) where
-    full : roomLeft (entries (s .held)) ≡ 0 → firstRefusal (ownChecks g (SendMarker (s .channel))) ≡ some 9
-    unfolding ownChecks priorChecks roomChecks logChecks noRoomForMarker firstRefusal
-    full k = rw (here .holds, decided, e, v .held, eq-eqb (roomLeft (entries (s .held))) 0 k)
-
-    passed : (roomLeft (entries (s .held)) ≡ 0 → ⊥) → firstRefusal (ownChecks g (SendMarker (s .channel))) ≡ none
-    unfolding ownChecks priorChecks roomChecks logChecks noRoomForMarker firstRefusal
-    passed k = rw (here .holds, decided, e, v .held, ne-eqb (roomLeft (entries (s .held))) 0 k)
+  own : {full : Bool} → may s ≡ true → noRoomForMarker (entries (s .held)) ≡ full
+      → firstRefusal (ownChecks g (SendMarker (s .channel))) ≡ cond full (some 9) none
+  unfolding ownChecks priorChecks roomChecks logChecks firstRefusal
+  own e k = rw (here .holds, decided, e, v .held, k)
 
 returns : tie.Need-returns
 returns c =
@@ -63,22 +58,26 @@ allowed d = rw (← (d .before .before .before .is-logical .ensures)) (not-false
 
 returns-2 : tie.Need-returns-2
 returns-2 c =
-    let room = c .before .before in
+    let asked = c .before .before in
     quiet-refused _ _ _
-    (λ g v. full _ g v (allowed (room .before .before)) (sym (room .room .ensures) ∙ c .before .if2 .taken))
+    (λ g v. own _ g v (allowed (asked .before .before))
+    (sym (asked .no-room-for-marker .ensures) ∙ c .before .if2 .taken))
     (c .refused2 .ensures)
 
+-- and there is room
+room : (d : tie.Else2) → let asked = d .before .before .before in
+    noRoomForMarker (entries (asked .before .before .before .before .before .args .s .held)) ≡ false
+room d = sym (d .before .no-room-for-marker .ensures) ∙ d .if2 .left
+
 push-requires : tie.Need-push-requires
-push-requires c κs = place-free _ (c .before .room .ensures) (c .if2 .left)
+push-requires c κs = place-for-marker _ (room c)
 
 returns-3 : tie.Need-returns-3
 unfolding effect putBack setEntries recordSent withChannel withProgress withSent
 returns-3 c =
     let pushed = c .before in
-    let room = pushed .before .before in
     quiet-went _ _ (c .went .ensures) refl refl refl
-    (λ g v. passed _ g v (allowed (room .before .before))
-    (λ none. pushed .before .if2 .left (room .room .ensures ∙ none)))
+    (λ g v. own _ g v (allowed (pushed .before .before .before .before)) (room (pushed .before)))
     (λ g v. rw (v .held, ← (pushed .push .ensures))
     (ap (quietly says.done)
     (same-state refl (v .round) (sym (same-word v)) (sym (same-tag v)) refl
