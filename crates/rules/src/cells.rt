@@ -20,14 +20,11 @@ pub fn at_most(store: &[u32], first: u32, stride: u32, n: u8, limit: u8) -> bool
     if store.len() <= from + step * ((n - 1) as usize) {
         return false;
     }
-    let mut at = from;
+    let mut so = true;
     let mut i: u8 = 0;
     while i < n {
-        if (limit as u32) < store[at] {
-            return false;
-        }
-        at += step;
+        so = so & (store[from + step * (i as usize)] <= limit as u32);
         i += 1;
     }
-    true
+    so
 }

@@ -22,7 +22,7 @@ const PAIRS: usize = PROCESSES * PROCESSES;
 pub fn sizes(processes: u8, channels: u8) -> Verdict
     ensures { λ r. ⌜ refusalOf r ≡ sizeRefusal processes channels ⌝ }
 {
-    if processes < 1 || PROCESSES < processes as usize {
+    if !((1 <= processes) & (processes as usize <= PROCESSES)) {
         return Verdict::Refuse(Refusal::ProcessCount);
     }
     if CHANNELS < channels as usize {
