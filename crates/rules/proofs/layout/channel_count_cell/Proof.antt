@@ -8,9 +8,4 @@ pub channel-count-cell-spec : {M : Type 1} → statement M
 unfolding form.slot form.channelRecord form.countCell
 channel-count-cell-spec =
     tie.close
-    (tie.spec
-    (λ c κs. search needs)
-    (λ c. search needs)
-    (λ c. search needs)
-    (λ c. search needs)
-    (λ c. search needs))
+    (tie.spec (λ c κs. search needs) (λ c. search needs) (λ c. search needs) (λ c. search needs) (λ c. search needs))

@@ -7,9 +7,4 @@ use Rattle.model.specs.Form as form
 pub physical-cell-spec : {M : Type 1} → statement M
 unfolding form.slot form.processRecord form.physicalCell
 physical-cell-spec =
-    tie.close
-    (tie.spec
-    (λ c κs. search needs)
-    (λ c. search needs)
-    (λ c. search needs)
-    (λ c. search needs))
+    tie.close (tie.spec (λ c κs. search needs) (λ c. search needs) (λ c. search needs) (λ c. search needs))

@@ -6,10 +6,5 @@ use Rattle.rules.proofs.phase.is_next.Tie as tie
 pub is-next-spec : {M : Type 1} → statement M
 is-next-spec =
     tie.close
-    (tie.spec
-    (λ c. search needs)
-    (λ c. search needs)
-    (λ c. search needs)
-    (λ c. search needs)
-    (λ c. rw (c .before .phase .given .1))
-    (λ c. search needs))
+    (tie.spec (λ c. search needs) (λ c. search needs) (λ c. search needs) (λ c. search needs)
+    (λ c. rw (c .before .phase .given .1)) (λ c. search needs))

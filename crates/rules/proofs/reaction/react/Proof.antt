@@ -69,24 +69,7 @@ logical-marker c channel = rw (c .enum-told6 .given .1, c .before .before .enum-
 pub react-spec : {M : Type 1} → statement M
 react-spec =
     tie.close
-    (tie.spec
-    (λ c. search needs)
-    (λ c. search needs)
-    (λ c κs. search needs)
-    (λ c. search needs)
-    (λ c κs. search needs)
-    (λ c. search needs)
-    (λ c κs. search needs)
-    logical-equal
-    (λ c. search needs)
-    (λ c. search needs)
-    (λ c κs. search needs)
-    (λ c. search needs)
-    (λ c κs. search needs)
-    (λ c. search needs)
-    idle-message
-    physical-message
-    logical-other
-    idle-marker
-    physical-marker
-    logical-marker)
+    (tie.spec (λ c. search needs) (λ c. search needs) (λ c κs. search needs) (λ c. search needs) (λ c κs. search needs)
+    (λ c. search needs) (λ c κs. search needs) logical-equal (λ c. search needs) (λ c. search needs)
+    (λ c κs. search needs) (λ c. search needs) (λ c κs. search needs) (λ c. search needs) idle-message physical-message
+    logical-other idle-marker physical-marker logical-marker)

@@ -9,7 +9,5 @@ pub line-sound-spec : {M : Type 1} → statement M
 unfolding lineSound
 line-sound-spec =
     tie.close
-    (tie.spec
-    (λ c κs. search needs)
-    (λ c. search needs)
+    (tie.spec (λ c κs. search needs) (λ c. search needs)
     (λ c. rw (sym (c .before .before .is-idle .ensures) ∙ c .before .if1 .left)))

@@ -9,10 +9,5 @@ pub phase-sound-spec : {M : Type 1} → statement M
 unfolding phaseSound hasProcess
 phase-sound-spec =
     tie.close
-    (tie.spec
-    (λ c. search needs)
-    (λ c. search needs)
-    (λ c. search needs)
-    (λ c. search needs)
-    (λ c. rw (c .before .before .phase .given .1))
-    (λ c. search needs))
+    (tie.spec (λ c. search needs) (λ c. search needs) (λ c. search needs) (λ c. search needs)
+    (λ c. rw (c .before .before .phase .given .1)) (λ c. search needs))

@@ -65,43 +65,41 @@ unfolding sound soundBy allTrue
 by-clauses g a b c d e t p q r u v = regroup a b c d e ∙ rw (t, p, q, r, u, v)
 
 -- the topology is refused
-returns : tie.Need-returns
+refused : tie.Need-returns
 unfolding sound soundBy allTrue view
-returns c =
-    let not-so : topologySound (c .before .before .before .args .s .topology) ≡ false =
-    sym (c .before .passes .ensures) ∙ not-true _ (c .if1 .taken) in
-    rw not-so
+refused c = rw (sym (c .before .passes .ensures) ∙ not-true _ (c .if1 .taken))
 
--- where the channels, the message logs and the channel logs were looked through
-abbrev first : tie.After-channels-sound → tie.Else1
-first a = a .before .before .before .before .before
+-- what came before the channels, the message logs and the channel logs were looked through
+abbrev checked : tie.After-channels-sound → tie.Else1
+checked a = a .before .before .before .before .before
 
-abbrev second : tie.After-at-most → tie.After-channels-sound
-second a = a .before .before .before .before
+abbrev channels : tie.After-at-most → tie.After-channels-sound
+channels a = a .before .before .before .before
 
-abbrev third : tie.After-at-most2 → tie.After-at-most
-third a = a .before .before .before .before
+abbrev messages : tie.After-at-most2 → tie.After-at-most
+messages a = a .before .before .before .before
 
-returns-2 : tie.Need-returns-2
+channels-few : tie.Need-channels-sound-requires
+channels-few c κs = let p = c .before .before .before .before in omega (arith, sizes p .channels, long p)
+
+messages-few : tie.Need-at-most-requires
+messages-few c κs = omega (arith, sizes (checked (c .before .before .before)) .processes)
+
+logs-few : tie.Need-at-most-requires-2
+logs-few c κs = omega (arith, sizes (checked (channels (c .before .before .before))) .channels)
+
+tested : tie.Need-returns-2
 unfolding view viewCounts logSound
-returns-2 c =
-    let a = c .before .before in
-    let b = third a in
-    let d = second b in
-    let p = first d in
-    by-clauses (view (s p)) _ _ _ _ _ (passes p) (d .channels-sound .ensures ∙ channels-told (s p) _)
-    (b .at-most .ensures) (a .at-most2 .ensures) (c .before .phase-sound .ensures) (c .line-sound .ensures)
+tested c =
+    let third = c .before .before in
+    let second = messages third in
+    let first = channels second in
+    let p = checked first in
+    by-clauses (view (s p)) _ _ _ _ _ (passes p) (first .channels-sound .ensures ∙ channels-told (s p) _)
+    (second .at-most .ensures) (third .at-most2 .ensures) (c .before .phase-sound .ensures) (c .line-sound .ensures)
 
 pub sound-spec : {M : Type 1} → statement M
 sound-spec =
     tie.close
-    (tie.spec
-    (λ c κs. search needs)
-    returns
-    (λ c. search needs)
-    (λ c κs. let p = c .before .before .before .before in omega (arith, sizes p .channels, long p))
-    (λ c κs. omega (arith, sizes (first (c .before .before .before)) .processes))
-    (λ c κs. omega (arith, sizes (first (second (c .before .before .before))) .channels))
-    (λ c κs. search needs)
-    (λ c κs. search needs)
-    returns-2)
+    (tie.spec (λ c κs. search needs) refused (λ c. search needs) channels-few messages-few logs-few
+    (λ c κs. search needs) (λ c κs. search needs) tested)
