@@ -2,16 +2,19 @@
 use Prim.Native.Nat.{ℕ, _≤_, _<_}
 use mathlib.Core.Path.{_≡_, refl, sym}
 use mathlib.Core.Logic.{_⊎_, inl, inr, ⊎-elim}
-use mathlib.Core.Bool.{Bool, true, false, _&&_}
+use mathlib.Core.Bool.{Bool, true, false, cond, _&&_}
 use mathlib.Core.Option.{Option, none, some}
-use lib.Dec.{eqb, ltb}
-use borrow.Author.Tests.{ne-eqb, ltb-true, ltb-false}
+use lib.Dec.{eqb}
+use borrow.Author.Tests.{ne-eqb}
 use native.Mathlib.Omega.{arith}
 use native.Mathlib.Nat.{eq-or-lt-of-le}
 use Rattle.model.specs.declared.Record.{Record}
+use Rattle.model.specs.declared.Record.the-variants.{Call, Recover}
+use Rattle.model.specs.declared.Step.{Step}
 use Rattle.model.specs.Record.{Fields, absent, provided, recordOf, withRest}
-use Rattle.model.proofs.laws.Tests.{true-is-not-false, Tested, holds, fails, test}
+use Rattle.model.proofs.laws.Tests.{true-is-not-false}
 use Rattle.record.specs.RecordRead.{recordIs, refuses, recordIn}
+use Rattle.record.specs.StepRead.{stepOf, stepIn}
 use Rattle.record.specs.Kind.{isRecord, decided}
 
 row-there : (t : Bool) (r : Record) → isRecord (provided t r) ≡ t
@@ -76,13 +79,35 @@ module _ (f : Fields) where
         not 9 (omega arith),
       )
 
-  pub a-kind : isRecord (recordOf f) ≡ true → (1 ≤ f .kind) × (f .kind < 10)
-  a-kind e = (go (test (ltb (f .kind) 1)), then (test (ltb (f .kind) 10)))
-    where
-      go : Tested (ltb (f .kind) 1) → 1 ≤ f .kind
-      go (holds l) = true-is-not-false e (no-row (inl (ltb-true _ _ l)))
-      go (fails l) = ltb-false _ _ l
+-- A row of the table, and the step that its kind is: where the row is there, it is that step.
+record Agrees (row : Option Record) (step : Option Step) : Type 0 where
+  answers : isRecord row ≡ true → stepIn step ≡ decided row
 
-      then : Tested (ltb (f .kind) 10) → f .kind < 10
-      then (holds l) = ltb-true _ _ l
-      then (fails l) = true-is-not-false e (no-row (inr (ltb-false _ _ l)))
+both : (t : Bool) {row row' : Option Record} {step step' : Option Step} → Agrees row step → Agrees row' step'
+    → Agrees (cond t row row') (cond t step step')
+both true a b = a
+both false a b = b
+
+row-agrees : (t : Bool) (s : Step) → Agrees (provided t (Call s)) (some s)
+unfolding stepIn
+row-agrees t s = record { answers = row-answers t (Call s) }
+
+no-agreement : (t : Bool) (row : Option Record) → t ≡ false → Agrees (cond t row none) none
+unfolding isRecord
+no-agreement true row e = true-is-not-false refl e
+no-agreement false row e = record { answers = λ there. true-is-not-false there refl }
+
+-- kind 9 is the only row that is no step
+pub step-answers : (f : Fields) → (f .kind ≡ 9 → ⊥) → isRecord (recordOf f) ≡ true
+    → stepIn (stepOf (f .kind) (f .process) (f .channel) (f .body)) ≡ decided (recordOf f)
+unfolding recordOf stepOf
+step-answers f not-9 =
+    (both (eqb (f .kind) 1) (row-agrees _ _)
+    (both (eqb (f .kind) 2) (row-agrees _ _)
+    (both (eqb (f .kind) 3) (row-agrees _ _)
+    (both (eqb (f .kind) 4) (row-agrees _ _)
+    (both (eqb (f .kind) 5) (row-agrees _ _)
+    (both (eqb (f .kind) 6) (row-agrees _ _)
+    (both (eqb (f .kind) 7) (row-agrees _ _)
+    (both (eqb (f .kind) 8) (row-agrees _ _)
+    (no-agreement (eqb (f .kind) 9) _ (ne-eqb (f .kind) 9 not-9)))))))))) .answers

@@ -9,6 +9,7 @@ use crate::pack::with_process;
 use crate::parse::parse;
 pub use field::word;
 pub use field::word_bytes;
+pub use kind::step_of;
 use model::Record;
 use model::Refusal;
 use model::Step;
@@ -24,6 +25,15 @@ pub enum RecordRead {
     Read(Record),
     Refused(Refusal),
 }
+
+// What a kind is with its fields: a step, or refusal 7.
+pub enum StepRead {
+    Read(Step),
+    Refused(Refusal),
+}
+
+// The kind of a record that is no step.
+pub const RECOVER: u8 = 9;
 
 // How many bytes the longest record has: a send's map, kind, channel and 4 bytes of body.
 pub const LONGEST: usize = 7;
@@ -67,6 +77,6 @@ pub fn write(r: Record) -> Written
             Step::Commit => with_process(7, 0),
             Step::Abort => with_process(8, 0),
         },
-        Record::Recover => with_process(9, 0),
+        Record::Recover => with_process(RECOVER, 0),
     }
 }
