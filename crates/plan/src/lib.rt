@@ -97,12 +97,7 @@ fn topology(bytes: &[u8]) -> Topology
 fn refused(refusal: Refusal) -> PlanRead
     ensures { λ r. ⌜ planSaid r ≡ refusedPlan (refusalNumber refusal) ⌝ }
 {
-    let topology = Topology {
-        processes: 0,
-        channels: 0,
-        from: [0; CHANNELS],
-        to: [0; CHANNELS],
-    };
+    let topology = rules::fresh::topology();
     PlanRead {
         verdict: Verdict::Refuse(refusal),
         topology,

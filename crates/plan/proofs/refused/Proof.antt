@@ -1,10 +1,12 @@
 -- `refused` meets its contract.
-use mathlib.Core.Path.{refl}
+use borrow.Author.Needs.{needs}
 use Rattle.model.specs.Outcome.{refusalOf}
-use Rattle.model.specs.State.{blankTopology}
 use Rattle.plan.proofs.refused.Statement.{statement}
 use Rattle.plan.proofs.refused.Tie as tie
 
+returns : tie.Need-returns
+unfolding refusalOf
+returns c = rw (c .topology .ensures)
+
 pub refused-spec : {M : Type 1} → statement M
-unfolding refusalOf blankTopology
-refused-spec = tie.close (tie.spec (λ c. refl))
+refused-spec = tie.close (tie.spec (λ c κs. search needs) returns)
