@@ -78,12 +78,7 @@ pub fn initial(topology: Topology) -> State
 pub fn refused(refusal: Refusal) -> Started
     ensures { λ r. ⌜ (startRefusal (r .start) ≡ some (refusalNumber refusal)) × (view (r .state) ≡ blankState) ⌝ }
 {
-    let state = initial(Topology {
-        processes: 0,
-        channels: 0,
-        from: [0; CHANNELS],
-        to: [0; CHANNELS],
-    });
+    let state = initial(fresh::topology());
     Started {
         start: Start::Refused(refusal),
         state,
