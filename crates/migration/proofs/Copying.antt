@@ -11,8 +11,8 @@ use Rattle.model.proofs.laws.Lists.{tabulate-length, tabulate-at}
 use Rattle.model.proofs.store.Writes.{length-writeAll, writeAll-append}
 use Rattle.model.proofs.store.Entries.{cells-more}
 use Rattle.model.proofs.store.Readable.{bodies-are}
+use Rattle.reading.specs.Source.{bodiesAt}
 use Rattle.migration.specs.Carry.{bodiesWrites}
-use Rattle.migration.specs.Source.{bodiesAt}
 
 -- one write after others
 pub one-more : (before : List ℕ) (ws : List Write) {after : List ℕ} → after ≡ writeAll before ws → (at v : ℕ)
@@ -27,12 +27,12 @@ pub record Copied (source : List ℕ) (from : ℕ) (before : List ℕ) (to : ℕ
   pub bodies : after ≡ writeAll before (cellWrites (to + 1) (take i (bodiesAt source from)))
 
 module _ (source : List ℕ) (from : ℕ) where
-  counted : length (bodiesAt source from) ≡ cell source from
+  pub counted : length (bodiesAt source from) ≡ cell source from
   counted =
       ap length (bodies-are source from (cell source from))
       ∙ tabulate-length (cell source from) (λ i. cell source (from + 1 + i))
 
-  body-at : (i : ℕ) → i < cell source from → getD (bodiesAt source from) i 0 ≡ cell source (from + 1 + i)
+  pub body-at : (i : ℕ) → i < cell source from → getD (bodiesAt source from) i 0 ≡ cell source (from + 1 + i)
   body-at i l =
       ap (λ (bs : List ℕ). getD bs i 0) (bodies-are source from (cell source from))
       ∙ tabulate-at (cell source from) (λ j. cell source (from + 1 + j)) i 0 l

@@ -7,14 +7,14 @@ use lib.ListN.{length, getD}
 use native.Mathlib.Omega.{arith}
 use Rattle.model.specs.declared.Topology.{Topology}
 use Rattle.model.specs.Notation.{concatBelow}
-use Rattle.model.specs.Form.{Form, lineCell, Log, messageLog, channelLog, channelPlaces, physicalCell, countCell}
-use Rattle.model.specs.Write.{Write, cellWrites, commitWrites}
+use Rattle.model.specs.Form.{Form, cell, lineCell, Log, messageLog, channelLog, channelPlaces, physicalCell, countCell}
+use Rattle.model.specs.Write.{Write, writeAll, cellWrites, commitWrites}
 use Rattle.model.proofs.laws.TopologyLaws.{Planned}
 use Rattle.model.proofs.store.Writes.{Each, each-append, each-map, each-concat}
 use Rattle.model.proofs.store.Entries.{Between, cells-into}
 use Rattle.model.proofs.store.Sizes.{Sized}
 use Rattle.model.proofs.store.Addresses.{Within, Of, line-outside, one-physical, physical-within, log-within, one-log}
-use Rattle.model.proofs.store.Addresses.{no-log}
+use Rattle.model.proofs.store.Addresses.{no-log, line-in-store, in-store, count-within}
 use Rattle.migration.specs.Carry.{processWrites, bodiesWrites}
 use Rattle.migration.proofs.Left.{LeavesIn, Spares, leaves-one, leaves-first, leaves-last, leaves-concat}
 use Rattle.migration.proofs.Left.{cells-leave}
@@ -83,63 +83,64 @@ module _ {G : Form} {T : Topology} {target : List ℕ} (sized : Sized G T target
       (λ w in-d e. h (one-log sized k (channelLog d) log a l planned (rw e in-d) own)) (channel d)
       (channel-into d l)
 
-  -- the line is written last, and elsewhere
-  line-spares : (a : ℕ) → Within G k a → Spares (commitWrites k) a
+  -- the target after all that a carry writes: the line is written last, and elsewhere
+  abbrev pub after : List ℕ
+  after = writeAll target (processes ++ channels ++ commitWrites k)
+
+  left : {a v : ℕ} → Within G k a → LeavesIn (processes ++ channels) a v → cell after a ≡ v
   unfolding commitWrites
-  line-spares a within = (λ e. line-outside k (subst (Within G k) e within), tt)
+  left {a} within h =
+      leaves-first h (commitWrites k) (λ e. line-outside k (subst (Within G k) e within), tt) .holds target
+      (in-store sized k a within)
 
-  -- all that a carry writes
-  abbrev pub all : List Write
-  all = processes ++ channels ++ commitWrites k
-
-  pub line-left : LeavesIn all lineCell k
+  pub line-left : cell after lineCell ≡ k
   unfolding commitWrites
-  line-left = leaves-last (processes ++ channels) (leaves-one (record { cell = lineCell; value = k }))
+  line-left =
+      leaves-last (processes ++ channels) (leaves-one (record { cell = lineCell; value = k })) .holds target
+      (line-in-store sized)
 
-  pub physical-left : (p : ℕ) → p < T .processes → LeavesIn all (physicalCell G k p) (word p)
+  pub physical-left : (p : ℕ) → p < T .processes → cell after (physicalCell G k p) ≡ word p
   physical-left p l =
       let a : ℕ = physicalCell G k p in
       let count : Write = record { cell = countCell G k (messageLog p); value = 0 } in
-      leaves-first
+      left (physical-within sized k p l)
       (leaves-first
       (leaves-concat (T .processes) process p a (word p) l
       (leaves-first (leaves-one (record { cell = a; value = word p })) (count ∷ [])
       (λ e. no-log sized k p (messageLog p) l l (rw e (counts (messageLog p))), tt))
       (λ q m h. physical-spared p q l m h)) channels
-      (channels-spare-physical p l)) (commitWrites k) (line-spares a (physical-within sized k p l))
+      (channels-spare-physical p l))
 
-  pub message-left : (p : ℕ) → p < T .processes → LeavesIn all (countCell G k (messageLog p)) 0
+  pub message-left : (p : ℕ) → p < T .processes → cell after (countCell G k (messageLog p)) ≡ 0
   message-left p l =
       let log : Log = messageLog p in
       let a : ℕ = countCell G k log in
       let physical : Write = record { cell = physicalCell G k p; value = word p } in
-      leaves-first
+      left (count-within sized k log l)
       (leaves-first
       (leaves-concat (T .processes) process p a 0 l
       (leaves-last (physical ∷ []) (leaves-one (record { cell = a; value = 0 })))
       (λ q m h. process-spares q log a m l (counts log) (λ e. h (omega (arith, ap owner e))))) channels
       (each-concat (λ w. a ≡ w .cell → ⊥) (T .channels) channel
       (λ c m. channel-spares c log a m l (counts log) (λ e. omega (arith, ap owner e)))))
-      (commitWrites k) (line-spares a (log-within sized k log a l (counts log)))
 
   -- a cell of a channel's log is as that channel's writes leave it
   channel-left : (c : ℕ) → c < T .channels → (a v : ℕ) → Of G k (channelLog c) a → LeavesIn (channel c) a v
-      → LeavesIn all a v
+      → cell after a ≡ v
   channel-left c l a v own h =
-      leaves-first
+      left (log-within sized k (channelLog c) a l own)
       (leaves-last processes
       (leaves-concat (T .channels) channel c a v l h
       (λ d m o. channel-spares d (channelLog c) a m l own (λ e. o (omega (arith, ap owner e))))))
-      (commitWrites k) (line-spares a (log-within sized k (channelLog c) a l own))
 
-  pub count-left : (c : ℕ) → c < T .channels → LeavesIn all (countCell G k (channelLog c)) (length (bodies c))
+  pub count-left : (c : ℕ) → c < T .channels → cell after (countCell G k (channelLog c)) ≡ length (bodies c)
   count-left c l =
       let at : ℕ = countCell G k (channelLog c) in
       channel-left c l at (length (bodies c)) (counts (channelLog c))
       (leaves-last (cellWrites (at + 1) (bodies c)) (leaves-one (record { cell = at; value = length (bodies c) })))
 
   pub body-left : (c i : ℕ) → c < T .channels → i < length (bodies c)
-      → LeavesIn all (countCell G k (channelLog c) + 1 + i) (getD (bodies c) i 0)
+      → cell after (countCell G k (channelLog c) + 1 + i) ≡ getD (bodies c) i 0
   body-left c i l m =
       let at : ℕ = countCell G k (channelLog c) in
       channel-left c l (at + 1 + i) (getD (bodies c) i 0)

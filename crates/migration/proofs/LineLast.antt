@@ -1,7 +1,7 @@
 -- The theorem of specs/LineLast: every write but the last goes past cell 0.
 use Prim.Native.Nat.{ℕ, _+_, _<_}
 use mathlib.Core.Path.{_≡_, sym, ap, _∙_}
-use mathlib.Core.List.{List, [], _∷_, _++_}
+use mathlib.Core.List.{List, _++_}
 use mathlib.Core.Option.{none}
 use lib.ListN.{length, take, length-append}
 use lib.Seq.{take-append-le}
@@ -12,12 +12,12 @@ use Rattle.model.specs.Form.{countCell, logged}
 use Rattle.model.specs.Write.{Write, writeAll, cellWrites, commitWrites}
 use Rattle.model.specs.Recover.{storedLine, restored}
 use Rattle.model.proofs.store.Writes.{Each, each-take, each-append, each-concat, kept}
-use Rattle.model.proofs.store.Addresses.{line-in-store}
 use Rattle.migration.specs.Carry.{processWrites, processesWrites, bodiesWrites, channelsWrites, carryWrites}
 use Rattle.migration.specs.Carry.{carryRefusal, carriedOr, carry}
 use Rattle.migration.specs.LineLast.{LineLast}
 use Rattle.migration.proofs.Admitting.{carriable, carried-refusal}
-use Rattle.migration.proofs.Left.{leaves-one, leaves-last, cells-spare}
+use Rattle.migration.proofs.Left.{cells-spare}
+use Rattle.migration.proofs.Recovers.{line-is}
 
 abbrev Past : Write → Type 0
 Past w = lineCell ≡ w .cell → ⊥
@@ -61,12 +61,10 @@ module _ (F G : Form) (T : Topology) (source target : List ℕ) where
       ∙ kept target (take n before) lineCell (each-take Past n before before-past)
 
   whole : carry F G T source target .refusal ≡ none → storedLine (carry F G T source target .target) ≡ k
-  unfolding storedLine carry carriedOr carryWrites commitWrites
+  unfolding carry carriedOr
   whole e =
       let passed : carryRefusal F G T source (length target) ≡ none = sym (carried-refusal _ _ _) ∙ e in
-      rw passed
-      (leaves-last before (leaves-one (record { cell = lineCell; value = k })) .holds target
-      (line-in-store (carriable F G T source target passed .sized)))
+      rw passed (line-is F G T source target (carriable F G T source target passed))
 
 pub line-last : LineLast
 line-last = record { halfway = halfway; whole = whole }

@@ -7,7 +7,6 @@ use mathlib.Core.Option.{none, orElse}
 use lib.ListN.{length, getD}
 use lib.Dec.{ltb}
 use borrow.Author.Tests.{ltb-true, le-leb, le-ltb}
-use native.Mathlib.Omega.{arith}
 use Rattle.model.specs.declared.Topology.{Topology}
 use Rattle.model.specs.Notation.{tabulate}
 use Rattle.model.specs.Check.{firstRefusal}
@@ -20,15 +19,14 @@ use Rattle.model.specs.Write.{writeAll}
 use Rattle.model.specs.Recover.{storedLine, startupOr, initializeRefusal, countFits, countsFit, recoverRefusal}
 use Rattle.model.specs.Recover.{restoredBy, restored, recoveredWord, recoveredChannel, recover}
 use Rattle.model.proofs.laws.Tests.{and-both}
-use Rattle.model.proofs.laws.Lists.{all-of, tabulate-length, tabulate-at, tabulate-cong}
+use Rattle.model.proofs.laws.Lists.{all-of, tabulate-cong}
 use Rattle.model.proofs.laws.TopologyLaws.{Planned}
 use Rattle.model.proofs.store.Writes.{length-writeAll}
-use Rattle.model.proofs.store.Addresses.{line-in-store, in-store, physical-within, log-within, count-within}
 use Rattle.model.proofs.store.Readable.{bodies-are}
 use Rattle.migration.specs.Carry.{processesWrites, channelsWrites, carryWrites}
 use Rattle.migration.specs.Faithful.{Alike}
 use Rattle.migration.proofs.Admitting.{Carriable}
-use Rattle.migration.proofs.Left.{LeavesIn}
+use Rattle.migration.proofs.Copying.{counted, body-at}
 use Rattle.migration.proofs.Landing.{line-left, physical-left, message-left, count-left, body-left}
 
 module _ (F G : Form) (T : Topology) (source target : List ℕ) (r : Carriable F G T source target) where
@@ -49,51 +47,33 @@ module _ (F G : Form) (T : Topology) (source target : List ℕ) (r : Carriable F
   abbrev from : ℕ → ℕ
   from c = countCell F k (channelLog c)
 
-  bodies-by : (c : ℕ) → bodies c ≡ tabulate (cell source (from c)) (λ i. cell source (from c + 1 + i))
-  unfolding logged bodiesBy entriesBy
-  bodies-by c = bodies-are source (from c) (cell source (from c))
-
   bodies-length : (c : ℕ) → length (bodies c) ≡ cell source (from c)
-  bodies-length c = ap length (bodies-by c) ∙ tabulate-length (cell source (from c)) _
+  unfolding logged bodiesBy entriesBy
+  bodies-length c = counted source (from c)
 
   fit : (c : ℕ) → c < T .channels → length (bodies c) ≤ places (channelLog c)
   fit c l = rw (bodies-length c) (r .readable .fits (channelLog c) l)
 
-  -- the value that the carry leaves in a cell
-  left : (a v : ℕ) → a < length target → LeavesIn (carryWrites F G T source) a v → cell after a ≡ v
-  left a v l h = h .holds target l
-
-  line-is : storedLine after ≡ k
+  pub line-is : storedLine after ≡ k
   unfolding storedLine carryWrites processesWrites channelsWrites
-  line-is = left _ _ (line-in-store (r .sized)) (line-left (r .sized) k word bodies fit)
+  line-is = line-left (r .sized) k word bodies fit
 
   physical-is : (p : ℕ) → p < T .processes → cell after (physicalCell G k p) ≡ word p
   unfolding carryWrites processesWrites channelsWrites
-  physical-is p l =
-      left _ _ (in-store (r .sized) k _ (physical-within (r .sized) k p l))
-      (physical-left (r .sized) k word bodies fit p l)
+  physical-is = physical-left (r .sized) k word bodies fit
 
   message-is : (p : ℕ) → p < T .processes → cell after (countCell G k (messageLog p)) ≡ 0
   unfolding carryWrites processesWrites channelsWrites
-  message-is p l =
-      left _ _ (in-store (r .sized) k _ (count-within (r .sized) k (messageLog p) l))
-      (message-left (r .sized) k word bodies fit p l)
+  message-is = message-left (r .sized) k word bodies fit
 
   count-is : (c : ℕ) → c < T .channels → cell after (countCell G k (channelLog c)) ≡ length (bodies c)
   unfolding carryWrites processesWrites channelsWrites
-  count-is c l =
-      left _ _ (in-store (r .sized) k _ (count-within (r .sized) k (channelLog c) l))
-      (count-left (r .sized) k word bodies fit c l)
+  count-is = count-left (r .sized) k word bodies fit
 
   body-is : (c i : ℕ) → c < T .channels → i < length (bodies c)
       → cell after (countCell G k (channelLog c) + 1 + i) ≡ getD (bodies c) i 0
   unfolding carryWrites processesWrites channelsWrites
-  body-is c i l m =
-      let a : ℕ = countCell G k (channelLog c) + 1 + i in
-      left a _
-      (in-store (r .sized) k a
-      (log-within (r .sized) k (channelLog c) a l (record { from = omega arith; to = omega (arith, fit c l) })))
-      (body-left (r .sized) k word bodies fit c i l m)
+  body-is = body-left (r .sized) k word bodies fit
 
   -- so a restart isn't refused
   count-fits : (log : Log) → Planned T log → countFits G after k log ≡ true
@@ -139,15 +119,10 @@ module _ (F G : Form) (T : Topology) (source target : List ℕ) (r : Carriable F
   logged-is c l =
       let to : ℕ = countCell G k (channelLog c) in
       let n : ℕ = cell source (from c) in
-      let counted : cell after to ≡ n = count-is c l ∙ bodies-length c in
       bodies-are after to (cell after to)
-      ∙ ap (λ (m : ℕ). tabulate m (λ i. cell after (to + 1 + i))) counted
-      ∙ tabulate-cong n _ _
-      (λ i m.
-      body-is c i l (rw (bodies-length c) m)
-      ∙ ap (λ (bs : List ℕ). getD bs i 0) (bodies-by c)
-      ∙ tabulate-at n (λ j. cell source (from c + 1 + j)) i 0 m)
-      ∙ sym (bodies-by c)
+      ∙ ap (λ (m : ℕ). tabulate m (λ i. cell after (to + 1 + i))) (count-is c l ∙ bodies-length c)
+      ∙ tabulate-cong n _ _ (λ i m. body-is c i l (rw (bodies-length c) m) ∙ body-at source (from c) i m)
+      ∙ sym (bodies-are source (from c) n)
 
   channels-are : recoveredChannel G T after ≡ recoveredChannel F T source
   unfolding recoveredChannel hasChannel

@@ -2,13 +2,12 @@
 use model::Topology;
 use reading::form;
 use reading::form::Form;
-use reading::source;
 use rules::layout;
 ghost use mathlib.Core.Path.{_≡_};
 ghost use Rattle.model.specs.Write.{writeAll};
 ghost use Rattle.migration.specs.Carry.{processesWrites, bodiesWrites, channelsWrites, carryWrites};
-ghost use Rattle.migration.specs.Source.{Admitted, Copyable, bodiesAt};
-ghost use Rattle.reading.specs.Source.{formOf};
+ghost use Rattle.migration.specs.Source.{Admitted, Copyable};
+ghost use Rattle.reading.specs.Source.{formOf, bodiesAt};
 
 // The words as physical checkpoints, with empty message logs.
 fn processes(topology: Topology, from: Form, source: &[u32], to: Form, target: &mut [u32])
@@ -20,7 +19,7 @@ fn processes(topology: Topology, from: Form, source: &[u32], to: Form, target: &
     let mut p: u8 = 0;
     while p < topology.processes {
         let at = form::physical_cell(to, line, p);
-        target[at] = source::word(from, source, form::physical_cell(from, line, p));
+        target[at] = reading::word(from, source, p);
         target[at + 1] = 0;
         p += 1;
     }

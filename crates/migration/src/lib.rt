@@ -3,33 +3,20 @@ mod destination;
 
 use model::Topology;
 use model::Verdict;
-use reading::form;
 use reading::form::Form;
-use reading::source;
-ghost use mathlib.Core.Path.{_≡_};
-ghost use Rattle.model.specs.Outcome.{refusalOf};
 ghost use Rattle.model.specs.Layout.{present};
 ghost use Rattle.reading.specs.Old.{old};
-ghost use Rattle.migration.specs.Carry.{carry, carryRefusal};
+ghost use Rattle.migration.specs.Carry.{carry};
 ghost use Rattle.migration.specs.Carries.{Carries};
 ghost use Rattle.reading.specs.Source.{formOf};
 
-// How many cells a store of the old form has.
-pub const OLD_STORE_CELLS: usize = 3265;
-
-// Refusals 1 to 6 and 16 of the source, then 6 of the target, which has so many cells.
-fn admit(topology: Topology, from: Form, source: &[u32], to: Form, cells: usize) -> Verdict
-    ensures { λ r. ⌜ refusalOf r ≡ carryRefusal (formOf from) (formOf to) topology (now (source .entry)) cells ⌝ }
-{
-    form::long_enough(source::admit(topology, from, source), to, cells)
-}
-
-// The source's line into the target, in its form; or a refusal.
+// The source's line into the target, in its form; or a refusal: 1 to 6 and 16 of the source, then 6 of the target.
 fn carry(topology: Topology, from: Form, source: &[u32], to: Form, target: &mut [u32]) -> Verdict
     ensures { λ r. ⌜ Carries (carry (formOf from) (formOf to) topology (now (source .entry)) (now (target .entry)))
         r (now (target .exit)) ⌝ }
 {
-    let verdict = admit(topology, from, source, to, target.len());
+    let found = reading::admit(topology, from, source);
+    let verdict = reading::long_enough(found, to, target.len());
     if let Verdict::Pass = verdict {
         destination::write(topology, from, source, to, target);
     }

@@ -2,10 +2,10 @@
 use crate::cells;
 use crate::cells::CELL_BYTES;
 use crate::cells::SOURCE_CELLS;
-use migration::OLD_STORE_CELLS;
 use model::Refusal;
 use model::Topology;
 use model::Verdict;
+use reading::form::OLD_STORE_CELLS;
 use rules::layout::STORE_CELLS;
 ghost use mathlib.Core.Path.{_≡_};
 ghost use mathlib.Core.List.{[]};

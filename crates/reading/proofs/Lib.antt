@@ -1,3 +1,3 @@
--- Laws that the proofs of several functions cite, and the theorem whose statement is in specs/: Old.
-pub mod Forms
+-- A law that the proofs of several functions cite, and the theorem whose statement is in specs/: Old.
+pub mod InStore
 pub mod Old

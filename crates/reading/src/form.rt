@@ -1,17 +1,12 @@
 // The two forms of the store: where each thing stands in a store of either, and the word rule that replays its logs.
-use model::CHANNELS;
-use model::PROCESSES;
+// The present form's numbers are those of rules::layout.
 use model::Receipt;
-use model::Refusal;
-use model::Verdict;
 use rules::layout;
 use rules::word;
 ghost use mathlib.Core.Path.{_≡_};
-ghost use Rattle.model.specs.Outcome.{refusalOf};
-ghost use Rattle.model.specs.Form.{processCells, slotCells, storeCells, slot, physicalCell, countCell};
-ghost use Rattle.model.specs.Form.{channelLog};
-ghost use Rattle.reading.specs.Old.{oldEnter};
-ghost use Rattle.reading.specs.Source.{formOf, lengthRefusal};
+ghost use Rattle.model.specs.Form.{processCells, storeCells, slot, physicalCell, countCell, channelLog};
+ghost use Rattle.reading.specs.Old.{old, oldEnter};
+ghost use Rattle.reading.specs.Source.{formOf, Small};
 
 // Document 01's store, and that of document 02's M-101.
 pub enum Form {
@@ -19,7 +14,17 @@ pub enum Form {
     Present,
 }
 
-// How many cells an entry of a message log has.
+// How many cells the old form has, in it a slot, and in a slot the record of a process.
+pub const OLD_STORE_CELLS: usize = 3265;
+
+const OLD_SLOT_CELLS: usize = 1632;
+
+const OLD_PROCESS_CELLS: usize = 66;
+
+// Where in a slot of the old form the channels' records start.
+const OLD_CHANNELS_START: usize = 1056;
+
+// How many cells an entry of a message log has, the record of a process, and the store.
 pub fn message_cells(form: Form) -> usize
     ensures { λ r. ⌜ r ≡ formOf form .messageCells ⌝ }
 {
@@ -29,76 +34,56 @@ pub fn message_cells(form: Form) -> usize
     }
 }
 
-// How many cells a process's record has: physical checkpoint, count, and the places of the log.
 pub fn process_cells(form: Form) -> usize
-    ensures { λ r. ⌜ r ≡ processCells (formOf form) ⌝ }
+    ensures { λ r. ⌜ Small (processCells (formOf form)) r ⌝ }
 {
-    2 + (layout::MESSAGE_PLACES as usize) * message_cells(form)
-}
-
-// How many cells a slot has, and the store.
-fn slot_cells(form: Form) -> usize
-    ensures { λ r. ⌜ r ≡ slotCells (formOf form) ⌝ }
-{
-    PROCESSES * process_cells(form) + CHANNELS * layout::CHANNEL_CELLS
+    match form {
+        Form::Old => OLD_PROCESS_CELLS,
+        Form::Present => layout::PROCESS_CELLS,
+    }
 }
 
 pub fn store_cells(form: Form) -> usize
     ensures { λ r. ⌜ r ≡ storeCells (formOf form) ⌝ }
 {
-    1 + 2 * slot_cells(form)
-}
-
-// What was found before, or 6 where a store of so many cells is too short.
-pub fn long_enough(found: Verdict, form: Form, cells: usize) -> Verdict
-    ensures { λ r. ⌜ refusalOf r ≡ lengthRefusal (refusalOf found) (formOf form) cells ⌝ }
-{
-    match found {
-        Verdict::Pass => {
-            if cells < store_cells(form) {
-                Verdict::Refuse(Refusal::ShortStore)
-            } else {
-                Verdict::Pass
-            }
-        }
-        Verdict::Refuse(r) => Verdict::Refuse(r),
+    match form {
+        Form::Old => OLD_STORE_CELLS,
+        Form::Present => layout::STORE_CELLS,
     }
 }
 
-// The first cell of a line's slot.
-fn slot(form: Form, line: u32) -> usize
-    ensures { λ r. ⌜ r ≡ slot (formOf form) line ⌝ }
+// The first cell of a line's slot, in the old form.
+fn old_slot(line: u32) -> usize
+    ensures { λ r. ⌜ r ≡ slot old line ⌝ }
 {
-    1 + slot_cells(form) * ((line % 2) as usize)
+    1 + OLD_SLOT_CELLS * ((line % 2) as usize)
 }
 
 // The cell of a process's physical checkpoint. The count of its message log is in the next one.
 pub fn physical_cell(form: Form, line: u32, process: u8) -> usize
-    ensures { λ r. ⌜ r ≡ physicalCell (formOf form) line process ⌝ }
+    ensures { λ r. ⌜ Small (physicalCell (formOf form) line process) r ⌝ }
 {
-    slot(form, line) + process_cells(form) * (process as usize)
+    match form {
+        Form::Old => old_slot(line) + OLD_PROCESS_CELLS * (process as usize),
+        Form::Present => layout::physical_cell(line, process),
+    }
 }
 
 // The cell of the count of a channel's log.
 pub fn channel_count_cell(form: Form, line: u32, channel: u8) -> usize
-    ensures { λ r. ⌜ r ≡ countCell (formOf form) line (channelLog channel) ⌝ }
+    ensures { λ r. ⌜ Small (countCell (formOf form) line (channelLog channel)) r ⌝ }
 {
-    slot(form, line) + PROCESSES * process_cells(form) + layout::CHANNEL_CELLS * (channel as usize)
+    match form {
+        Form::Old => old_slot(line)
+            + OLD_CHANNELS_START
+            + layout::CHANNEL_CELLS * (channel as usize),
+        Form::Present => layout::channel_count_cell(line, channel),
+    }
 }
 
 // The old word rule: 31 × word + body, modulo 2^32.
-fn old_enter(word: u32, receipt: Receipt) -> u32
+pub fn old_enter(word: u32, receipt: Receipt) -> u32
     ensures { λ r. ⌜ r ≡ oldEnter word receipt ⌝ }
 {
     std::num::wrapping_add_u32(word::product(word), receipt.body)
-}
-
-// What a receipt makes of a word.
-pub fn enter(form: Form, word: u32, receipt: Receipt) -> u32
-    ensures { λ r. ⌜ r ≡ formOf form .enter word receipt ⌝ }
-{
-    match form {
-        Form::Old => old_enter(word, receipt),
-        Form::Present => word::enter(word, receipt),
-    }
 }

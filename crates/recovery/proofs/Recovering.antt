@@ -1,7 +1,7 @@
 -- Laws of initialize and recover: the two ways in which they answer, how initialize's arrays are seen, and what recover
 -- makes of one process and of one channel.
 use Prim.Native.Nat.{ℕ}
-use mathlib.Core.Path.{_≡_, refl, ap, ap₂, fun-ext, _∙_}
+use mathlib.Core.Path.{_≡_, refl, ap, ap₂}
 use mathlib.Core.Bool.{false}
 use mathlib.Core.List.{List, []}
 use mathlib.Core.Option.{Option, none, some}

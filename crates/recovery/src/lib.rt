@@ -1,6 +1,5 @@
 // Recover, which only reads the store, and what initialize has in common with it, each equal to its definition in
 // model.
-mod log;
 mod start;
 
 pub use start::admit;

@@ -1,6 +1,5 @@
 // Recover, document 01's restart; and what initialize, its setup, has in common with it: refusals 1 to 6, the first
 // state, and how a refusal is answered.
-use crate::log;
 use model::CHANNELS;
 use model::PROCESSES;
 use model::Phase;
@@ -13,18 +12,15 @@ use model::State;
 use model::Topology;
 use model::Verdict;
 use reading::form::Form;
-use reading::source;
 use rules::channel;
 use rules::fresh;
-use rules::layout;
-use rules::topology;
 ghost use mathlib.Core.Path.{_≡_};
 ghost use mathlib.Core.List.{[]};
 ghost use mathlib.Core.Option.{none, some};
 ghost use Rattle.model.specs.Outcome.{refusalNumber, refusalOf, startRefusal};
-ghost use Rattle.model.specs.State.{view, idleState, blankState, entriesIn};
+ghost use Rattle.model.specs.State.{view, idleState, blankState};
 ghost use Rattle.model.specs.Start.{initializeRefusal, recover, recoverRefusal, recoveredWord, recoveredChannel};
-ghost use Rattle.recovery.specs.Starts.{Starts, wordsSeen};
+ghost use Rattle.recovery.specs.Starts.{Starts, wordsSeen, channelsSeen};
 
 // The channels of a state, filled: their places, and how many of each are used.
 struct Filled {
@@ -33,19 +29,15 @@ struct Filled {
 }
 
 // An idle state at a line: no progress, no log counts, tags 0.
-fn idle(
-    topology: Topology,
-    line: u32,
-    words: [u32; PROCESSES],
-    places: [Places; CHANNELS],
-    lengths: [u8; CHANNELS],
-) -> State
-    ensures { λ r. ⌜ view r ≡ idleState topology line (wordsSeen words) (entriesIn places lengths) ⌝ }
+fn idle(topology: Topology, line: u32, words: [u32; PROCESSES], filled: Filled) -> State
+    ensures { λ r. ⌜ view r ≡ idleState topology line (wordsSeen words) (channelsSeen filled) ⌝ }
 {
     let round = Round {
         line,
         phase: Phase::Idle,
     };
+    let places = filled.places;
+    let lengths = filled.lengths;
     let flags = fresh::flags();
     let counts = fresh::counts();
     State {
@@ -65,13 +57,11 @@ pub fn initial(topology: Topology) -> State
     ensures { λ r. ⌜ view r ≡ idleState topology 0 (λ p. 0) (λ c. []) ⌝ }
 {
     let blank = channel::blank();
-    idle(
-        topology,
-        0,
-        [0; PROCESSES],
-        [blank; CHANNELS],
-        [0; CHANNELS],
-    )
+    let filled = Filled {
+        places: [blank; CHANNELS],
+        lengths: [0; CHANNELS],
+    };
+    idle(topology, 0, [0; PROCESSES], filled)
 }
 
 // A refusal, with the blank state: no process, no channel.
@@ -89,16 +79,7 @@ pub fn refused(refusal: Refusal) -> Started
 pub fn admit(topology: Topology, cells: usize) -> Verdict
     ensures { λ r. ⌜ refusalOf r ≡ initializeRefusal topology cells ⌝ }
 {
-    match topology::check(topology) {
-        Verdict::Pass => {
-            if cells < layout::STORE_CELLS {
-                Verdict::Refuse(Refusal::ShortStore)
-            } else {
-                Verdict::Pass
-            }
-        }
-        Verdict::Refuse(r) => Verdict::Refuse(r),
-    }
+    reading::admit_cells(topology, Form::Present, cells)
 }
 
 // The words, by replaying the message logs on the physical checkpoints.
@@ -106,32 +87,29 @@ fn words(topology: Topology, store: &[u32]) -> [u32; PROCESSES]
     requires { ⌜ recoverRefusal topology (now store) ≡ none ⌝ }
     ensures { λ r. ⌜ wordsSeen r ≡ recoveredWord topology (now (store .entry)) ⌝ }
 {
-    let line = store[layout::LINE_CELL];
     let mut r = [0; PROCESSES];
     let mut p: u8 = 0;
     while p < topology.processes {
-        let at = layout::physical_cell(line, p);
-        r[p as usize] = source::word(Form::Present, store, at);
+        r[p as usize] = reading::word(Form::Present, store, p);
         p += 1;
     }
     r
 }
 
-// The channels, filled from their logs.
+// The channels, filled from their logs. No place past a channel's length is seen, so that the array isn't cleared: it
+// begins as the first channel's places, as often as there are channels.
 fn channels(topology: Topology, store: &[u32]) -> Filled
     requires { ⌜ recoverRefusal topology (now store) ≡ none ⌝ }
-    ensures { λ r. ⌜ entriesIn (r .places) (r .lengths) ≡ recoveredChannel topology (now (store .entry)) ⌝ }
+    ensures { λ r. ⌜ channelsSeen r ≡ recoveredChannel topology (now (store .entry)) ⌝ }
 {
-    let line = store[layout::LINE_CELL];
-    let blank = channel::blank();
-    let mut places = [blank; CHANNELS];
+    let first = channel::places(reading::channel(Form::Present, store, 0));
+    let mut places = [first; CHANNELS];
     let mut lengths = [0; CHANNELS];
     let mut c: u8 = 0;
     while c < topology.channels {
-        let at = c as usize;
-        let held = log::fill(store, layout::channel_count_cell(line, c));
-        places[at] = channel::places(held);
-        lengths[at] = held.count;
+        let held = reading::channel(Form::Present, store, c);
+        places[c as usize] = channel::places(held);
+        lengths[c as usize] = held.count;
         c += 1;
     }
     Filled { places, lengths }
@@ -141,13 +119,11 @@ fn channels(topology: Topology, store: &[u32]) -> Filled
 pub fn recover(topology: Topology, store: &[u32]) -> Started
     ensures { λ r. ⌜ Starts (recover topology (now (store .entry))) r (now (store .entry)) ⌝ }
 {
-    match source::admit(topology, Form::Present, store) {
+    match reading::admit(topology, Form::Present, store) {
         Verdict::Pass => {
             let words = words(topology, store);
             let filled = channels(topology, store);
-            let places = filled.places;
-            let lengths = filled.lengths;
-            let state = idle(topology, store[layout::LINE_CELL], words, places, lengths);
+            let state = idle(topology, reading::line(store), words, filled);
             Started {
                 start: Start::Ready,
                 state,

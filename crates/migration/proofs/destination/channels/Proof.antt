@@ -10,8 +10,7 @@ use Rattle.model.specs.Recover.{storedLine}
 use Rattle.model.proofs.store.Readable.{last-in-store}
 use Rattle.model.proofs.store.Addresses.{line-in-store, in-store, log-within}
 use Rattle.migration.specs.Carry.{bodiesWrites, channelsWrites}
-use Rattle.migration.specs.Source.{bodiesAt}
-use Rattle.reading.specs.Source.{formOf}
+use Rattle.reading.specs.Source.{formOf, bodiesAt}
 use Rattle.migration.proofs.Admitting.{Carriable, carriable}
 use Rattle.migration.proofs.Writing.{Wrote, none-wrote, one-wrote, all-wrote, wrote-length}
 use Rattle.migration.proofs.destination.channels.Statement.{statement}
@@ -43,17 +42,18 @@ unfolding storedLine cell
 copy-requires x κs =
     let test = x .before .before .before in
     let l = test .before .before .loop in
+    let a = start test .args in
     let r = known (start test) in
     let log = channelLog (l .c) in
-    let line = storedLine (start test .args .source .now) in
+    let line = storedLine (a .source .now) in
     let fits = r .readable .fits log (test .if1 .taken) in
-    let end : ℕ = countCell (formOf (start test .args .to)) line log
-    + cell (start test .args .source .now) (countCell (formOf (start test .args .from)) line log) in
+    let end : ℕ = countCell (formOf (a .to)) line log + cell (a .source .now) (countCell (formOf (a .from)) line log) in
     let last = in-store (r .sized) line end
     (log-within (r .sized) line log end (test .if1 .taken) (record { from = omega arith; to = omega (arith, fits) })) in
-    rw (x .before .before .channel-count-cell .ensures, x .channel-count-cell2 .ensures)
+    rw (x .before .before .channel-count-cell .ensures .is, x .channel-count-cell2 .ensures .is)
     (record {
-      lies = record { count = fits; ends = last-in-store (r .readable) log (test .if1 .taken) };
+      count = fits;
+      lies = omega (arith, last-in-store (r .readable) log (test .if1 .taken));
       room = omega (arith, last, wrote-length (l .inv));
     })
 
@@ -67,7 +67,7 @@ loop-again c =
     one-wrote (l .inv) (test .if1 .taken)
     (c .before .before .copy .ensures
     ∙ ap₂ (λ (to from : ℕ). writeAll (l .target) (bodiesWrites to (bodiesAt source from)))
-    (x .channel-count-cell2 .ensures) (x .before .before .channel-count-cell .ensures))
+    (x .channel-count-cell2 .ensures .is) (x .before .before .channel-count-cell .ensures .is))
 
 returns : tie.Need-returns Inv-loop μ-loop
 unfolding channelsWrites
@@ -81,11 +81,9 @@ channels-spec =
     μ-loop
     (λ c. line-in-store (known (c .before .before .before) .readable .sized))
     (λ c. none-wrote)
-    (λ c κs. search needs)
-    (λ c κs. search needs)
+    (λ c κs. search needs) (λ c κs. search needs)
     copy-requires
-    (λ c. search needs)
-    (λ c. omega arith)
+    (λ c. search needs) (λ c. omega arith)
     loop-again
     (λ c. wrote-length (c .before .before .loop .inv))
     returns)

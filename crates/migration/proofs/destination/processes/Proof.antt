@@ -1,19 +1,17 @@
 -- `destination::processes` meets its contract. The loop's invariant: the records of the first p processes are written.
 use borrow.Author.Needs.{needs}
 use native.Mathlib.Omega.{arith}
-use Prim.Native.Nat.{ℕ, _+_, _-_, _<_, _≤_}
+use Prim.Native.Nat.{ℕ, _+_, _-_, _<_}
 use mathlib.Core.Path.{ap₂}
 use mathlib.Core.List.{List}
 use lib.ListN.{length, length-set, set}
-use Rattle.model.specs.Form.{Form, cell, messagePlaces, messageLog, physicalCell, countCell, receiptsBy, entriesBy}
+use Rattle.model.specs.Form.{Form, cell, messageLog, physicalCell, countCell}
 use Rattle.model.specs.Write.{Write, write, writeAll}
-use Rattle.model.specs.Recover.{storedLine, restored, restoredBy}
-use Rattle.model.proofs.store.Readable.{last-in-store}
+use Rattle.model.specs.Recover.{storedLine, restored}
 use Rattle.model.proofs.store.Addresses.{line-in-store, in-store, count-within}
 use Rattle.migration.specs.Carry.{processWrites, processesWrites}
-use Rattle.reading.specs.Source.{formOf, Lies}
+use Rattle.reading.specs.Source.{formOf}
 use Rattle.migration.proofs.Admitting.{Carriable, carriable}
-use Rattle.reading.proofs.Forms.{physical-low}
 use Rattle.migration.proofs.Writing.{Wrote, none-wrote, one-wrote, all-wrote, wrote-length}
 use Rattle.migration.proofs.destination.processes.Statement.{statement}
 use Rattle.migration.proofs.destination.processes.Tie as tie
@@ -41,44 +39,26 @@ start t = t .before .before .before .before .before .before
 abbrev at : tie.Then1 Inv-loop μ-loop → ℕ
 at t = t .before .before .loop .p
 
--- the log of the turn's process lies in the source
-lies : (c : tie.After-physical-cell2 Inv-loop μ-loop)
-    → let a = start (c .before .before) .args in
-    Lies messagePlaces (formOf (a .from) .messageCells) (a .source .now) (c .physical-cell2 .result + 1)
-unfolding storedLine cell physicalCell countCell
-lies c =
-    let test = c .before .before in
-    let r = known (start test) .readable in
-    let log = messageLog (at test) in
-    rw (c .physical-cell2 .ensures)
-    (record { count = r .fits log (test .if1 .taken); ends = last-in-store r log (test .if1 .taken) })
-
 -- the process's two cells are in the target
 inside : (c : tie.After-word Inv-loop μ-loop)
-    → c .before .before .physical-cell .result + 1 < length (c .before .before .before .before .before .loop .target)
+    → c .before .physical-cell .result + 1 < length (c .before .before .before .before .loop .target)
 unfolding storedLine cell physicalCell countCell
 inside c =
-    let test = c .before .before .before in
+    let test = c .before .before in
     let sized = known (start test) .sized in
     let line = storedLine (start test .args .source .now) in
     let count = in-store sized line _ (count-within sized line (messageLog (at test)) (test .if1 .taken)) in
-    omega (arith, count, c .before .before .physical-cell .ensures, wrote-length (test .before .before .loop .inv))
-
-low : (c : tie.After-word Inv-loop μ-loop) → c .before .before .physical-cell .result ≤ 40000
-low c =
-    let test = c .before .before .before in
-    let a = start test .args in
-    let small : at test < 256 = omega (arith, test .if1 .taken, known (start test) .sized .processes) in
-    rw (c .before .before .physical-cell .ensures) (physical-low (a .to) _ (at test) small)
+    omega (arith, count, c .before .physical-cell .ensures .is, wrote-length (test .before .before .loop .inv))
 
 loop-again : tie.Need-loop-again Inv-loop μ-loop
-unfolding storedLine cell physicalCell countCell write writeAll restored restoredBy receiptsBy entriesBy
+unfolding storedLine cell physicalCell countCell write writeAll
 loop-again c =
-    let test = c .before .before .before in
+    let test = c .before .before in
     let l = test .before .before .loop in
+    let known = known (start test) .accepted in
     one-wrote (l .inv) (test .if1 .taken)
-    (ap₂ (λ (a v : ℕ). set (set (l .target) a v) (a + 1) 0) (c .before .before .physical-cell .ensures)
-    (rw (c .before .physical-cell2 .ensures) at (c .word .ensures .word (lies (c .before)))))
+    (ap₂ (λ (a v : ℕ). set (set (l .target) a v) (a + 1) 0) (c .before .physical-cell .ensures .is)
+    (c .word .ensures .word (start test .args .topology) known (test .if1 .taken)))
 
 returns : tie.Need-returns Inv-loop μ-loop
 unfolding processesWrites
@@ -92,16 +72,13 @@ processes-spec =
     μ-loop
     (λ c. line-in-store (known (c .before .before .before) .readable .sized))
     (λ c. none-wrote)
-    (λ c κs. search needs)
-    (λ c κs. search needs)
-    (λ c κs. search needs)
-    (λ c. omega (arith, low c))
+    (λ c κs. search needs) (λ c κs. search needs)
+    (λ c. omega (arith, c .before .physical-cell .ensures .low))
     (λ c. omega (arith, inside c))
-    (λ c. omega (arith, low c))
-    (λ c. omega (arith, low c))
+    (λ c. omega (arith, c .before .physical-cell .ensures .low))
+    (λ c. omega (arith, c .before .physical-cell .ensures .low))
     (λ c. simp length-set (inside c))
-    (λ c. search needs)
-    (λ c. omega arith)
+    (λ c. search needs) (λ c. omega arith)
     loop-again
     (λ c. wrote-length (c .before .before .loop .inv))
     returns)

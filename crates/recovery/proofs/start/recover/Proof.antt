@@ -2,13 +2,10 @@
 use mathlib.Core.Path.{_≡_, refl, sym, ap, _∙_}
 use mathlib.Core.Option.{none}
 use borrow.Author.Needs.{needs}
-use native.Mathlib.Omega.{arith}
-use Rattle.model.specs.Layout.{present, cell}
-use Rattle.model.specs.Start.{recover, recoverRefusal, storedLine}
+use Rattle.model.specs.Start.{recover, recoverRefusal}
 use Rattle.model.specs.Outcome.{refusalOf}
 use Rattle.model.specs.Recover as recovery
 use Rattle.recovery.proofs.Recovering.{starts-ready, starts-refused}
-use Rattle.model.proofs.store.Readable.{readable}
 use Rattle.recovery.proofs.start.recover.Statement.{statement}
 use Rattle.recovery.proofs.start.recover.Tie as tie
 
@@ -18,16 +15,12 @@ ready : (c : tie.After-enum-told)
 unfolding refusalOf
 ready c = sym (c .before .before .admit .ensures) ∙ ap refusalOf (c .enum-told .given .1)
 
-shared-slice-read-idle : tie.Need-shared-slice-read-idle
-shared-slice-read-idle c = omega (arith, readable present _ _ (ready (c .before .before .before .before .before)) .sized .cells)
-
 returns : tie.Need-returns
-unfolding recovery.recover storedLine cell
+unfolding recovery.recover
 returns c =
-    let f = c .before .before .before .before in
-    let t = f .before .before in
-    starts-ready _ _ _ _ (ready t) refl
-    (rw (← (f .before .words .ensures), ← (f .channels .ensures)) (c .idle .ensures))
+    let f = c .before .before in
+    starts-ready _ _ _ _ (ready (f .before .before)) refl
+    (rw (← (f .before .words .ensures), ← (f .channels .ensures), ← (c .before .line .ensures)) (c .idle .ensures))
 
 returns-2 : tie.Need-returns-2
 unfolding recovery.recover refusalOf
@@ -41,13 +34,9 @@ pub recover-spec : {M : Type 1} → statement M
 recover-spec =
     tie.close
     (tie.spec
-    (λ c κs. search needs)
-    (λ c. search needs)
+    (λ c κs. search needs) (λ c. search needs)
     (λ c κs. ready c)
     (λ c κs. ready (c .before))
-    shared-slice-read-idle
-    (λ c κs. search needs)
-    (λ c. search needs)
-    (λ c κs. search needs)
+    (λ c κs. search needs) (λ c κs. search needs) (λ c. search needs) (λ c κs. search needs)
     returns
     returns-2)

@@ -1,21 +1,22 @@
--- `source::replayed` meets its contract: its loop is a replay by a running index.
+-- `log::replayed` meets its contract: its loop is a replay by a running index.
 use borrow.Author.Needs.{needs}
 use native.Mathlib.Omega.{arith}
+use native.Mathlib.Nat.{mul-le-mul-left}
 use Prim.Native.Nat.{_+_, _-_, _≤_}
 use lib.ListN.{length}
 use Rattle.model.specs.Form.{cell}
 use Rattle.model.proofs.store.RunningIndex.{index-inside}
 use Rattle.model.proofs.store.LogReplay.{LogReplay, replay-starts, replay-goes-on, replay-ends}
 use Rattle.reading.specs.Source.{formOf}
-use Rattle.reading.proofs.source.replayed.Statement.{statement}
-use Rattle.reading.proofs.source.replayed.Tie as tie
+use Rattle.reading.proofs.log.replayed.Statement.{statement}
+use Rattle.reading.proofs.log.replayed.Tie as tie
 
 abbrev Inv-loop : tie.InvT-loop
-Inv-loop form source at n cells entry₀ word₀ i₀ entry word i =
-    LogReplay (formOf form .enter) source (formOf form .messageCells) (at + 1) n (cell source at) entry word i
+Inv-loop form store at n cells entry₀ word₀ i₀ entry word i =
+    LogReplay (formOf form .enter) store (formOf form .messageCells) (at + 1) n (cell store at) entry word i
 
 abbrev μ-loop : tie.MeasureT-loop
-μ-loop form source at n cells entry₀ word₀ i₀ entry word i = n - i
+μ-loop form store at n cells entry₀ word₀ i₀ entry word i = n - i
 
 loop-holds : tie.Need-loop-holds Inv-loop μ-loop
 unfolding cell
@@ -29,25 +30,27 @@ cast-n c = omega (arith, c .before .before .pre .count)
 abbrev begun : tie.In-loop Inv-loop μ-loop → tie.Start Inv-loop μ-loop
 begun c = c .before .before .before .before .before .before
 
--- the entry of this turn is in the source
+-- the entry of this turn is in the store
 inside : (c : tie.In-loop Inv-loop μ-loop)
-    → c .before .loop .entry + formOf (begun c .args .form) .messageCells ≤ length (begun c .args .source .now)
+    → c .before .loop .entry + formOf (begun c .args .form) .messageCells ≤ length (begun c .args .store .now)
 unfolding cell
 inside c =
-    index-inside (c .before .loop .inv .index) (c .loop-test .taken) _ (omega (arith, begun c .pre .ends))
+    let cells = formOf (begun c .args .form) .messageCells in
+    index-inside (c .before .loop .inv .index) (c .loop-test .taken) _
+    (omega (arith, begun c .pre .inside, mul-le-mul-left cells (begun c .pre .count)))
 
 add-entry-2 : tie.Need-add-entry-2 Inv-loop μ-loop
 add-entry-2 c =
-    let turn = c .before .before in omega (arith, inside turn, turn .before .before .before .message-cells .ensures)
+    let turn = c .before in omega (arith, inside turn, turn .before .before .before .message-cells .ensures)
 
 add-i : tie.Need-add-i Inv-loop μ-loop
 unfolding cell
-add-i c = let turn = c .before .before in omega (arith, turn .loop-test .taken, begun turn .pre .count)
+add-i c = omega (arith, c .before .loop-test .taken, begun (c .before) .pre .count)
 
 loop-again : tie.Need-loop-again Inv-loop μ-loop
 loop-again c =
-    let turn = c .before .before in
-    rw (turn .before .before .before .message-cells .ensures, c .enter .ensures, c .before .receipt .ensures)
+    let turn = c .before in
+    rw (turn .before .before .before .message-cells .ensures, c .entered .ensures)
     (replay-goes-on (turn .before .loop .inv) (turn .loop-test .taken))
 
 returns : tie.Need-returns Inv-loop μ-loop
@@ -60,17 +63,11 @@ replayed-spec =
     (tie.spec
     Inv-loop
     μ-loop
-    (λ c. omega arith)
-    (λ c. omega arith)
-    (λ c. omega arith)
+    (λ c. omega arith) (λ c. omega arith) (λ c. omega arith)
     cast-n
-    (λ c κs. search needs)
-    (λ c. omega arith)
-    (λ c. omega arith)
-    (λ c. omega arith)
+    (λ c κs. search needs) (λ c. omega arith) (λ c. omega arith) (λ c. omega arith)
     loop-holds
     (λ c κs. inside c)
-    (λ c κs. search needs)
     add-entry-2
     add-i
     (λ c. omega arith)

@@ -1,11 +1,11 @@
--- `form::long_enough` meets its contract: what was found, else 6.
+-- `refusals::long_enough` meets its contract: what was found, else 6.
 use borrow.Author.Needs.{needs}
 use borrow.Author.Tests.{lt-ltb, le-ltb}
 use mathlib.Core.Option.{orElse}
 use Rattle.model.specs.Check.{firstRefusal}
 use Rattle.model.specs.Outcome.{refusalOf}
-use Rattle.reading.proofs.form.long_enough.Statement.{statement}
-use Rattle.reading.proofs.form.long_enough.Tie as tie
+use Rattle.reading.proofs.refusals.long_enough.Statement.{statement}
+use Rattle.reading.proofs.refusals.long_enough.Tie as tie
 
 returns : tie.Need-returns
 unfolding refusalOf orElse firstRefusal

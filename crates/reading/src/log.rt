@@ -1,0 +1,107 @@
+// What a store holds, by the rules of its form: its line, the words of processes, and what channels held.
+use crate::form;
+use crate::form::Form;
+use model::CHANNEL_ROOM;
+use model::Channel;
+use model::Receipt;
+use rules::channel;
+use rules::layout;
+use rules::word;
+ghost use mathlib.Core.Path.{_≡_};
+ghost use Prim.Native.Nat.{_+_, _≤_};
+ghost use lib.ListN.{length};
+ghost use Rattle.model.specs.Form.{cellsFrom, receiptIn};
+ghost use Rattle.model.specs.Recover.{storedLine};
+ghost use Rattle.reading.specs.Source.{formOf, Lies, wordAt, WordRead, ChannelRead};
+
+// The last recovery line finished; 0 where the store has no cell.
+pub fn line(store: &[u32]) -> u32
+    ensures { λ r. ⌜ r ≡ storedLine (now (store .entry)) ⌝ }
+{
+    if store.len() <= layout::LINE_CELL {
+        return 0;
+    }
+    store[layout::LINE_CELL]
+}
+
+// What the entry of a message log that begins in the cell at makes of a word. An old one doesn't tell the channel.
+fn entered(form: Form, store: &[u32], at: usize, word: u32) -> u32
+    requires { ⌜ at + formOf form .messageCells ≤ length (now store) ⌝ }
+    ensures { λ r. ⌜ r ≡ formOf form .enter word
+        (receiptIn (cellsFrom (now (store .entry)) (formOf form .messageCells) at)) ⌝ }
+{
+    match form {
+        Form::Old => form::old_enter(
+            word,
+            Receipt {
+                channel: 0,
+                body: store[at],
+            },
+        ),
+        Form::Present => word::enter(
+            word,
+            Receipt {
+                channel: store[at + 1],
+                body: store[at],
+            },
+        ),
+    }
+}
+
+// The word of the process whose record begins in the cell at: its message log replayed on its physical checkpoint.
+fn replayed(form: Form, store: &[u32], at: usize) -> u32
+    requires { ⌜ Lies (formOf form) (now store) at ⌝ }
+    ensures { λ r. ⌜ r ≡ wordAt (formOf form) (now (store .entry)) at ⌝ }
+{
+    let n = store[at + 1] as usize;
+    let cells = form::message_cells(form);
+    let mut entry = at + 2;
+    let mut word = store[at];
+    let mut i = 0;
+    while i < n {
+        word = entered(form, store, entry, word);
+        entry += cells;
+        i += 1;
+    }
+    word
+}
+
+// The word of a process at the store's line; 0 where its record isn't in the store, or its log over its places.
+pub fn word(form: Form, store: &[u32], process: u8) -> u32
+    ensures { λ r. ⌜ WordRead (formOf form) (now (store .entry)) process r ⌝ }
+{
+    let at = form::physical_cell(form, line(store), process);
+    if store.len() < at + form::process_cells(form) {
+        return 0;
+    }
+    if (layout::MESSAGE_PLACES as u32) < store[at + 1] {
+        return 0;
+    }
+    replayed(form, store, at)
+}
+
+// A channel at the store's line, as messages tagged 0; empty where its record isn't in the store, or its log over its
+// places. All places are filled: nobody sees one past the count, and a number of turns that is known costs less.
+pub fn channel(form: Form, store: &[u32], channel: u8) -> Channel
+    ensures { λ r. ⌜ ChannelRead (formOf form) (now (store .entry)) channel r ⌝ }
+{
+    let at = form::channel_count_cell(form, line(store), channel);
+    if store.len() < at + layout::CHANNEL_CELLS {
+        return channel::empty();
+    }
+    let n = store[at];
+    if (layout::CHANNEL_PLACES as u32) < n {
+        return channel::empty();
+    }
+    let mut bodies = [0; CHANNEL_ROOM];
+    let mut i = 0;
+    while i < CHANNEL_ROOM {
+        bodies[i] = store[at + 1 + i];
+        i += 1;
+    }
+    Channel {
+        bodies,
+        kinds: [0; CHANNEL_ROOM],
+        count: n as u8,
+    }
+}
