@@ -1,3 +1,3 @@
 -- A law that the proofs of several functions cite, and the theorem whose statement is in specs/: Old.
-pub mod InStore
+pub mod Whole
 pub mod Old

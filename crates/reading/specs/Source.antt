@@ -1,20 +1,20 @@
 -- Which form the code's stands for, and what is read of a store.
-use Prim.Native.Nat.{ℕ, _+_, _<_, _≤_}
+use Prim.Native.Nat.{ℕ, _+_, _*_, _<_, _≤_}
 use mathlib.Core.Path.{_≡_}
-use mathlib.Core.Bool.{false}
+use mathlib.Core.Bool.{Bool, false, cond, _&&_}
 use mathlib.Core.List.{List, [], _∷_, map}
-use mathlib.Core.Option.{Option, none, orElse}
+use mathlib.Core.Option.{Option, orElse}
 use lib.ListN.{length}
-use lib.Dec.{ltb}
-use Rattle.model.specs.declared.Channel.{Channel}
-use Rattle.model.specs.declared.Topology.{Topology}
+use lib.Dec.{leb, ltb}
+use Rattle.model.specs.declared.Entry.{Entry}
 use Rattle.model.specs.Check.{_gives_, firstRefusal}
 use Rattle.model.specs.Word.{replayBy}
-use Rattle.model.specs.Channel.{entries, messages}
+use Rattle.model.specs.Channel.{messages}
 use Rattle.model.specs.Form as model
 use Rattle.model.specs.Form.{cell, messagePlaces, channelEntryCells, entriesFrom, receiptIn, bodyIn, logged}
+use Rattle.model.specs.Form.{Log, messageLog, channelLog, places, entryCells, countCell}
 use Rattle.model.specs.Layout.{present}
-use Rattle.model.specs.Recover.{recoverRefusal, storedLine, restored}
+use Rattle.model.specs.Recover.{storedLine, restored}
 use Rattle.reading.specs.declared.form.Form.{Form}
 use Rattle.reading.specs.declared.form.Form.the-variants.{Old, Present}
 use Rattle.reading.specs.Old.{old}
@@ -32,15 +32,20 @@ pub record Small (n r : ℕ) : Type 0 where
 abbrev pub lengthRefusal : Option ℕ → model.Form → ℕ → Option ℕ
 lengthRefusal found F cells = orElse found (firstRefusal ((ltb cells (model.storeCells F) gives 6) ∷ []))
 
--- what is read of process p and of channel c is what a restart gives them, for any topology that has them and by which
--- the store isn't refused
-pub record WordRead (F : model.Form) (store : List ℕ) (p r : ℕ) : Type 0 where
-  pub word : (T : Topology) → recoverRefusal F T store ≡ none → p < T .processes
-      → r ≡ restored F store (storedLine store) p
+-- whether a log of the store's line is in the store with all of its places, and has no more entries than these
+unfoldable pub whole : model.Form → List ℕ → Log → Bool
+whole F store log =
+    ltb (countCell F (storedLine store) log + entryCells F log * places log) (length store)
+    && leb (cell store (countCell F (storedLine store) log)) (places log)
 
-pub record ChannelRead (F : model.Form) (store : List ℕ) (c : ℕ) (r : Channel) : Type 0 where
-  pub channel : (T : Topology) → recoverRefusal F T store ≡ none → c < T .channels
-      → entries r ≡ messages false (logged F store (storedLine store) c)
+-- What is read of process p and of channel c, in any store: what a restart by the form's rules gives them where their
+-- log is whole, as every planned one is in a store that isn't refused; 0 and nothing where it isn't.
+abbrev pub wordRead : model.Form → List ℕ → ℕ → ℕ
+wordRead F store p = cond (whole F store (messageLog p)) (restored F store (storedLine store) p) 0
+
+abbrev pub channelRead : model.Form → List ℕ → ℕ → List Entry
+channelRead F store c =
+    cond (whole F store (channelLog c)) (messages false (logged F store (storedLine store) c)) []
 
 -- the record of a process that begins in the cell `at` is in the store, and its log within its places
 pub record Lies (F : model.Form) (store : List ℕ) (at : ℕ) : Type 0 where

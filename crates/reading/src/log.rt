@@ -10,9 +10,10 @@ use rules::word;
 ghost use mathlib.Core.Path.{_≡_};
 ghost use Prim.Native.Nat.{_+_, _≤_};
 ghost use lib.ListN.{length};
+ghost use Rattle.model.specs.Channel.{entries};
 ghost use Rattle.model.specs.Form.{cellsFrom, receiptIn};
 ghost use Rattle.model.specs.Recover.{storedLine};
-ghost use Rattle.reading.specs.Source.{formOf, Lies, wordAt, WordRead, ChannelRead};
+ghost use Rattle.reading.specs.Source.{formOf, Lies, wordAt, wordRead, channelRead};
 
 // The last recovery line finished; 0 where the store has no cell.
 pub fn line(store: &[u32]) -> u32
@@ -68,7 +69,7 @@ fn replayed(form: Form, store: &[u32], at: usize) -> u32
 
 // The word of a process at the store's line; 0 where its record isn't in the store, or its log over its places.
 pub fn word(form: Form, store: &[u32], process: u8) -> u32
-    ensures { λ r. ⌜ WordRead (formOf form) (now (store .entry)) process r ⌝ }
+    ensures { λ r. ⌜ r ≡ wordRead (formOf form) (now (store .entry)) process ⌝ }
 {
     let at = form::physical_cell(form, line(store), process);
     if store.len() < at + form::process_cells(form) {
@@ -83,7 +84,7 @@ pub fn word(form: Form, store: &[u32], process: u8) -> u32
 // A channel at the store's line, as messages tagged 0; empty where its record isn't in the store, or its log over its
 // places. All places are filled: nobody sees one past the count, and a number of turns that is known costs less.
 pub fn channel(form: Form, store: &[u32], channel: u8) -> Channel
-    ensures { λ r. ⌜ ChannelRead (formOf form) (now (store .entry)) channel r ⌝ }
+    ensures { λ r. ⌜ entries r ≡ channelRead (formOf form) (now (store .entry)) channel ⌝ }
 {
     let at = form::channel_count_cell(form, line(store), channel);
     if store.len() < at + layout::CHANNEL_CELLS {
@@ -99,9 +100,7 @@ pub fn channel(form: Form, store: &[u32], channel: u8) -> Channel
         bodies[i] = store[at + 1 + i];
         i += 1;
     }
-    Channel {
-        bodies,
-        kinds: [0; CHANNEL_ROOM],
-        count: n as u8,
-    }
+    let mut places = channel::blank();
+    places.bodies = bodies;
+    channel::held(places, n as u8)
 }

@@ -13,6 +13,7 @@ use Rattle.migration.specs.Carry.{processWrites, processesWrites}
 use Rattle.reading.specs.Source.{formOf}
 use Rattle.migration.proofs.Admitting.{Carriable, carriable}
 use Rattle.migration.proofs.Writing.{Wrote, none-wrote, one-wrote, all-wrote, wrote-length}
+use Rattle.reading.proofs.Whole.{word-given}
 use Rattle.migration.proofs.destination.processes.Statement.{statement}
 use Rattle.migration.proofs.destination.processes.Tie as tie
 
@@ -58,7 +59,7 @@ loop-again c =
     let known = known (start test) .accepted in
     one-wrote (l .inv) (test .if1 .taken)
     (ap₂ (λ (a v : ℕ). set (set (l .target) a v) (a + 1) 0) (c .before .physical-cell .ensures .is)
-    (c .word .ensures .word (start test .args .topology) known (test .if1 .taken)))
+    (word-given _ (start test .args .topology) _ known _ (test .if1 .taken) (c .word .ensures)))
 
 returns : tie.Need-returns Inv-loop μ-loop
 unfolding processesWrites

@@ -7,14 +7,19 @@ use Prim.Native.Nat.{ℕ, _+_, _-_, _<_}
 use mathlib.Core.Path.{_≡_, refl, sym, ap, _∙_}
 use mathlib.Core.Bool.{false}
 use lib.ListN.{length, getD, length-set, getD-replicate}
-use Rattle.model.specs.Form.{cell, channelLog, countCell, logged, bodiesBy, entriesBy}
+use mathlib.Core.List.{List, []}
+use Rattle.model.specs.declared.Places.{Places}
+use Rattle.model.specs.declared.Channel.{Channel}
+use Rattle.model.specs.Notation.{tabulate}
+use Rattle.model.specs.State.{noPlaces, emptyChannel}
+use Rattle.model.specs.Form.{Form, Log, cell, channelLog, countCell, logged, bodiesBy, entriesBy}
 use Rattle.model.specs.Recover.{storedLine}
-use Rattle.model.specs.Channel.{channelRoom, messages}
+use Rattle.model.specs.Channel.{channelRoom, entries, messages}
 use Rattle.model.proofs.laws.Functions.{seen-replicate, filledBelow, filled-none, filled-more}
 use Rattle.model.proofs.laws.ChannelLaws.{entries-messages}
-use Rattle.model.proofs.store.Readable.{readable, bodies-are}
+use Rattle.model.proofs.store.Readable.{bodies-are}
 use Rattle.reading.specs.Source.{formOf, bodiesAt}
-use Rattle.reading.proofs.InStore.{log-in-store}
+use Rattle.reading.proofs.Whole.{beyond, over, within}
 use Rattle.reading.proofs.log.channel.Statement.{statement}
 use Rattle.reading.proofs.log.channel.Tie as tie
 
@@ -26,41 +31,43 @@ Inv-loop store channel at n bodies₀ i₀ bodies i =
 abbrev μ-loop : tie.MeasureT-loop
 μ-loop store channel at n bodies₀ i₀ bodies i = channelRoom - i
 
--- where the channel's record begins
+-- the log that is read, and where
 module _ (q : tie.After-channel-count-cell Inv-loop μ-loop) where
   abbrev start : tie.Start Inv-loop μ-loop
   start = q .before .before .before
 
+  abbrev F : Form
+  F = formOf (start .args .form)
+
+  abbrev st : List ℕ
+  st = start .args .store .now
+
+  abbrev log : Log
+  log = channelLog (start .args .channel)
+
   abbrev at : ℕ
   at = q .channel-count-cell .result
 
-  begins : let a = start .args in
-      at ≡ countCell (formOf (a .form)) (storedLine (a .store .now)) (channelLog (a .channel))
-  begins =
-      let a = start .args in
-      q .channel-count-cell .ensures .is
-      ∙ ap (λ (n : ℕ). countCell (formOf (a .form)) n (channelLog (a .channel))) (q .before .line .ensures)
+  begins : at ≡ countCell F (storedLine st) log
+  begins = q .channel-count-cell .ensures .is ∙ ap (λ (n : ℕ). countCell F n log) (q .before .line .ensures)
+
+-- nothing is read
+empty-is : (r : Channel) → r ≡ emptyChannel → entries r ≡ []
+unfolding entries tabulate
+empty-is r e = rw e refl
 
 returns : tie.Need-returns Inv-loop μ-loop
 returns c =
     let q = c .before .before in
-    let log = channelLog (start q .args .channel) in
-    record {
-      channel = λ T e l.
-          let whole = log-in-store (readable _ T (start q .args .store .now) e) log l in
-          absurd (omega (arith, whole, begins q, c .before .if1 .taken));
-    }
+    empty-is _ (c .empty .ensures)
+    ∙ rw (beyond (F q) (st q) (log q) (omega (arith, begins q, c .before .if1 .taken))) refl
 
 returns-2 : tie.Need-returns-2 Inv-loop μ-loop
 unfolding cell
 returns-2 c =
     let q = c .before .before .before .before in
-    let log = channelLog (start q .args .channel) in
-    record {
-      channel = λ T e l.
-          let fits = rw (← (begins q)) at (readable _ T (start q .args .store .now) e .fits log l) in
-          absurd (omega (arith, fits, c .before .if2 .taken));
-    }
+    empty-is _ (c .empty2 .ensures)
+    ∙ rw (over (F q) (st q) (log q) (rw (← (begins q)) (c .before .if2 .taken))) refl
 
 -- what a turn came from
 abbrev from : tie.In-loop Inv-loop μ-loop → tie.After-channel-count-cell Inv-loop μ-loop
@@ -68,7 +75,7 @@ from c = c .before .before .before .before .before
 
 -- the cell of its body is in the store
 inside : (c : tie.In-loop Inv-loop μ-loop)
-    → at (from c) + 1 + c .before .loop .i < length (start (from c) .args .store .now)
+    → at (from c) + 1 + c .before .loop .i < length (st (from c))
 inside c = omega (arith, c .before .before .before .before .if1 .left, c .loop-test .taken)
 
 fits : (c : tie.In-loop Inv-loop μ-loop) → at (from c) + 1 + c .before .loop .i < 70000
@@ -79,24 +86,29 @@ unfolding cell
 loop-again c =
     let l = c .before .before .loop in
     let q = from (c .before) in
-    let body : ℕ → ℕ = λ j. cell (start q .args .store .now) (at q + 1 + j) in (
+    let body : ℕ → ℕ = λ j. cell (st q) (at q + 1 + j) in (
       simp length-set (l .inv .0),
       filled-more (λ x. x) (l .bodies) 0 (body (l .i)) (l .i) body 0 (omega (arith, l .inv .0)) (l .inv .1) refl,
     )
 
+-- its places are all of a message tagged 0
+plain-kinds : (p : Places) → p ≡ noPlaces → (j : ℕ) → j < channelRoom → getD (p .kinds) j 0 ≡ 0
+unfolding noPlaces
+plain-kinds p e j h = rw e (getD-replicate channelRoom j 0 0 h)
+
 returns-3 : tie.Need-returns-3 Inv-loop μ-loop
 unfolding cell logged bodiesBy entriesBy
 returns-3 c =
-    let q = c .before .before .before .before .before in
-    let st = start q .args .store .now in
-    record {
-      channel = λ T e h.
-          entries-messages _ (λ i. cell st (at q + 1 + i))
-          (λ j h. getD-replicate channelRoom j 0 0 (omega arith))
-          (λ j h. ap (λ (f : ℕ → ℕ). f j) (c .before .loop .inv .1) ∙ rw (lt-ltb j (c .before .loop .i) (omega arith)))
-          ∙ ap (messages false) (sym (bodies-are st (at q) _))
-          ∙ ap (λ (a : ℕ). messages false (bodiesAt st a)) (begins q);
-    }
+    let l = c .before .before .before in
+    let q = l .before .before .before .before in
+    ap entries (c .held .ensures)
+    ∙ entries-messages _ (λ i. cell (st q) (at q + 1 + i))
+    (λ j h. plain-kinds _ (c .before .blank .ensures) j (omega arith))
+    (λ j h. ap (λ (f : ℕ → ℕ). f j) (l .loop .inv .1) ∙ rw (lt-ltb j (l .loop .i) (omega arith)))
+    ∙ ap (messages false) (sym (bodies-are (st q) (at q) _))
+    ∙ rw (within (F q) (st q) (log q) (omega (arith, begins q, l .before .before .before .if1 .left))
+    (rw (← (begins q)) (omega (arith, l .before .if2 .left))))
+    (ap (λ (a : ℕ). messages false (bodiesAt (st q) a)) (begins q))
 
 pub channel-spec : {M : Type 1} → statement M
 channel-spec =
@@ -117,5 +129,7 @@ channel-spec =
     (λ c. omega (arith, c .before .before .loop .inv .0))
     (λ c. omega arith) (λ c. omega arith)
     loop-again
+    (λ c κs. search needs)
     (λ c. omega arith)
+    (λ c κs. search needs)
     returns-3)

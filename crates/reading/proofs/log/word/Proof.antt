@@ -1,45 +1,51 @@
--- `log::word` meets its contract: a store that a restart doesn't refuse passes each test.
+-- `log::word` meets its contract: the two tests are those of a whole log.
 use borrow.Author.Needs.{needs}
 use native.Mathlib.Omega.{arith}
-use Prim.Native.Nat.{ℕ}
-use mathlib.Core.Path.{_≡_, ap, _∙_}
-use Rattle.model.specs.Form.{cell, messageLog, physicalCell, countCell, receiptsBy, entriesBy}
+use Prim.Native.Nat.{ℕ, _+_}
+use mathlib.Core.Path.{_≡_, sym, ap, _∙_}
+use mathlib.Core.List.{List}
+use Rattle.model.specs.Form.{Form, Log, cell, messageLog, physicalCell, countCell, receiptsBy, entriesBy}
 use Rattle.model.specs.Recover.{storedLine, restored, restoredBy}
-use Rattle.model.proofs.store.Readable.{readable}
 use Rattle.reading.specs.Source.{formOf, wordAt}
-use Rattle.reading.proofs.InStore.{log-in-store}
+use Rattle.reading.proofs.Whole.{beyond, over, within}
 use Rattle.reading.proofs.log.word.Statement.{statement}
 use Rattle.reading.proofs.log.word.Tie as tie
 
--- the cell where the record of the process begins
-begins : (c : tie.After-process-cells) → let a = c .before .before .before .before .args in
-    c .before .physical-cell .result ≡ physicalCell (formOf (a .form)) (storedLine (a .store .now)) (a .process)
-begins c =
-    let a = c .before .before .before .before .args in
-    c .before .physical-cell .ensures .is
-    ∙ ap (λ (n : ℕ). physicalCell (formOf (a .form)) n (a .process)) (c .before .before .line .ensures)
+-- the log that is read, and where: its count stands after the physical checkpoint
+module _ (c : tie.After-process-cells) where
+  abbrev start : tie.Start
+  start = c .before .before .before .before
+
+  abbrev F : Form
+  F = formOf (start .args .form)
+
+  abbrev st : List ℕ
+  st = start .args .store .now
+
+  abbrev log : Log
+  log = messageLog (start .args .process)
+
+  abbrev at : ℕ
+  at = c .before .physical-cell .result
+
+  begins : at ≡ physicalCell F (storedLine st) (start .args .process)
+  begins =
+      c .before .physical-cell .ensures .is
+      ∙ ap (λ (n : ℕ). physicalCell F n (start .args .process)) (c .before .before .line .ensures)
+
+  counts : countCell F (storedLine st) log ≡ at + 1
+  unfolding physicalCell countCell
+  counts = ap (λ (n : ℕ). n + 1) (sym begins)
 
 returns : tie.Need-returns
-unfolding physicalCell countCell
 returns c =
     let p = c .before in
-    let a = p .before .before .before .before .args in
-    record {
-      word = λ T e l.
-          let whole = log-in-store (readable _ T (a .store .now) e) (messageLog (a .process)) l in
-          absurd (omega (arith, whole, c .if1 .taken, begins p, p .process-cells .ensures .is));
-    }
+    rw (beyond (F p) (st p) (log p) (omega (arith, c .if1 .taken, counts p, p .process-cells .ensures .is)))
 
 returns-2 : tie.Need-returns-2
-unfolding cell physicalCell countCell
+unfolding cell
 returns-2 c =
-    let p = c .before .before .before in
-    let a = p .before .before .before .before .args in
-    record {
-      word = λ T e l.
-          let fits = rw (← (begins p)) at (readable _ T (a .store .now) e .fits (messageLog (a .process)) l) in
-          absurd (omega (arith, fits, c .if2 .taken));
-    }
+    let p = c .before .before .before in rw (over (F p) (st p) (log p) (rw (counts p) (c .if2 .taken)))
 
 replayed-requires : tie.Need-replayed-requires
 unfolding cell
@@ -48,11 +54,15 @@ replayed-requires c κs =
     record { inside = omega (arith, e .if1 .left, e .before .process-cells .ensures .is); count = omega arith }
 
 returns-3 : tie.Need-returns-3
-unfolding restored restoredBy receiptsBy entriesBy physicalCell countCell
+unfolding cell restored restoredBy receiptsBy entriesBy physicalCell countCell
 returns-3 c =
-    let p = c .before .before .before .before in
-    let a = p .before .before .before .before .args in
-    record { word = λ T e l. c .replayed .ensures ∙ ap (wordAt (formOf (a .form)) (a .store .now)) (begins p) }
+    let d = c .before in
+    let e = d .before .before in
+    let p = e .before in
+    c .replayed .ensures
+    ∙ rw (within (F p) (st p) (log p) (omega (arith, e .if1 .left, counts p, p .process-cells .ensures .is))
+    (rw (counts p) (omega (arith, d .if2 .left))))
+    (ap (wordAt (F p) (st p)) (begins p))
 
 pub word-spec : {M : Type 1} → statement M
 word-spec =

@@ -14,6 +14,7 @@ use Rattle.model.specs.Layout.{present}
 use Rattle.model.proofs.laws.Functions.{filledBelow, filled-none, filled-both}
 use Rattle.model.proofs.store.Readable.{readable}
 use Rattle.recovery.proofs.Recovering.{no-entries, channelOf, channels-below}
+use Rattle.reading.proofs.Whole.{channel-given}
 use Rattle.recovery.proofs.start.channels.Statement.{statement}
 use Rattle.recovery.proofs.start.channels.Tie as tie
 
@@ -52,7 +53,7 @@ loop-again c =
     let a = start t .args in
     let filled : entries (held (c .places2 .result) (x .result .count)) ≡ channelOf (a .store .now) (at t) =
     ap (λ (p : Places). entries (held p (x .result .count))) (c .places2 .ensures)
-    ∙ x .ensures .channel (a .topology) (start t .pre) (t .if1 .taken) in (
+    ∙ channel-given _ (a .topology) _ (start t .pre) _ (t .if1 .taken) (x .ensures) in (
       omega arith,
       simp length-set (l .inv .1),
       simp length-set (l .inv .2),

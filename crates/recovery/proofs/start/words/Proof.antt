@@ -10,6 +10,7 @@ use Rattle.model.specs.Layout.{present}
 use Rattle.model.proofs.laws.Functions.{seen-replicate, filledBelow, filled-none, filled-more}
 use Rattle.model.proofs.store.Readable.{readable}
 use Rattle.recovery.proofs.Recovering.{wordOf, words-below}
+use Rattle.reading.proofs.Whole.{word-given}
 use Rattle.recovery.proofs.start.words.Statement.{statement}
 use Rattle.recovery.proofs.start.words.Tie as tie
 
@@ -46,7 +47,7 @@ loop-again c =
       simp length-set (l .inv .1),
       filled-more (λ x. x) (l .r) 0 (c .word .result) (at t) (wordOf (a .store .now)) 0
           (omega (arith, l .inv .1, inside t)) (l .inv .2)
-          (c .word .ensures .word (a .topology) (start t .pre) (t .if1 .taken)),
+          (word-given _ (a .topology) _ (start t .pre) _ (t .if1 .taken) (c .word .ensures)),
     )
 
 returns : tie.Need-returns Inv-loop μ-loop
