@@ -1,4 +1,5 @@
 // The checksum: each value is folded in as 31 × sum + value, modulo 2^32.
+use model::Entry;
 use model::Outcome;
 use model::Record;
 use model::Step;
@@ -35,11 +36,20 @@ pub fn record_code(r: Record) -> u32 {
     }
 }
 
+// A message's tag and body; a marker counts as 2, and has body 0.
+fn entry_sum(sum: u32, e: Entry) -> u32 {
+    match e {
+        Entry::Message { body, tag } => fold(fold(sum, tag as u32), body),
+        Entry::Marker => fold(fold(sum, 2), 0),
+    }
+}
+
 fn channel_sum(sum: u32, c: model::Channel) -> u32 {
-    let mut r = fold(sum, c.count as u32);
-    let mut i: usize = 0;
-    while i < 8 && i < c.count as usize {
-        r = fold(fold(r, c.kinds[i] as u32), c.bodies[i]);
+    let entries = channel::length(c);
+    let mut r = fold(sum, entries as u32);
+    let mut i: u8 = 0;
+    while i < entries {
+        r = entry_sum(r, channel::entry_at(c, i));
         i += 1;
     }
     r
