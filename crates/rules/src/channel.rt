@@ -1,5 +1,5 @@
-// A channel (document 01's wire) by value: what it is made of, its entries, and how much room is left. No other crate
-// reads a channel's places or count but through here.
+// A channel (document 01's wire) by value: what it is made of, its entries, and how much room is left. Other crates
+// read a channel through here alone; the engine's entries write its places.
 use model::Channel;
 use model::Entry;
 use model::Places;
