@@ -1,6 +1,6 @@
 // What the input says: the plan, numbers, a store's cells, the steps of a script. Past its end all is 0.
-use model::Step;
 use model::Topology;
+use record::StepRead;
 
 // How many bytes a step of a script has, and where the plan starts.
 pub const SCRIPTED: usize = 6;
@@ -49,21 +49,9 @@ pub fn plan(bytes: &[u8]) -> Topology {
     t
 }
 
-// The first step of a script; the turn is added to its body.
-pub fn scripted(script: &[u8], turn: u32) -> Step {
+// The first step of a script, or refusal 7; the turn is added to its body.
+pub fn scripted(script: &[u8], turn: u32) -> StepRead {
     let index = byte(script, 1);
-    let body = number(script, 2);
-    match byte(script, 0) {
-        1 => Step::Send {
-            channel: index,
-            body: std::num::wrapping_add_u32(body, turn),
-        },
-        2 => Step::Receive { channel: index },
-        3 => Step::Begin,
-        4 => Step::PhysicalCheckpoint { process: index },
-        5 => Step::LogicalCheckpoint { process: index },
-        6 => Step::SendMarker { channel: index },
-        7 => Step::Commit,
-        _ => Step::Abort,
-    }
+    let body = std::num::wrapping_add_u32(number(script, 2), turn);
+    record::step_of(byte(script, 0), index, index, body)
 }

@@ -10,12 +10,17 @@ use model::LISTED;
 use model::Listed;
 use model::Record;
 use model::Topology;
+use record::RecordRead;
+use record::StepRead;
 use reduction::Finding;
 
-fn call(script: &[u8], turn: u32) -> Record {
-    match byte(script, 0) {
-        9 => Record::Recover,
-        _ => Record::Call(scripted(script, turn)),
+fn call(script: &[u8], turn: u32) -> RecordRead {
+    if byte(script, 0) == record::RECOVER {
+        return RecordRead::Read(Record::Recover);
+    }
+    match scripted(script, turn) {
+        StepRead::Read(step) => RecordRead::Read(Record::Call(step)),
+        StepRead::Refused(r) => RecordRead::Refused(r),
     }
 }
 
@@ -30,7 +35,9 @@ fn list(script: &[u8], turn: u32) -> CallList {
         if left.len() < SCRIPTED {
             break;
         }
-        let content = call(left, turn);
+        let RecordRead::Read(content) = call(left, turn) else {
+            break;
+        };
         calls[count as usize] = Listed { content };
         count += 1;
         let after = &left[SCRIPTED..];

@@ -8,6 +8,7 @@ use model::Answer;
 use model::FULL_BUDGET;
 use model::Outcome;
 use model::Topology;
+use record::StepRead;
 use rules::layout::STORE_CELLS;
 
 struct Tally {
@@ -25,7 +26,9 @@ fn turn(before: Tally, number: u32, script: &[u8], store: &mut [u32]) -> Tally {
     let mut sum = before.sum;
     let mut left = script;
     while SCRIPTED <= left.len() {
-        let step = scripted(left, number);
+        let StepRead::Read(step) = scripted(left, number) else {
+            break;
+        };
         answer = engine::step(answer.state, step, store, FULL_BUDGET);
         let outcome = answer.outcome;
         sum = fold(fold(sum, outcome_code(outcome)), answer.made);

@@ -5,6 +5,7 @@ use crate::input::scripted;
 use crate::sum::byte_sum;
 use crate::sum::fold;
 use model::Record;
+use record::StepRead;
 
 // The bytes into the buffer, from a position on, as far as it goes.
 fn put(out: &mut [u8], at: usize, bytes: [u8; 7]) {
@@ -26,7 +27,10 @@ fn write_all(out: &mut [u8], script: &[u8], turn: u32) -> usize {
     let mut at: usize = 0;
     let mut left = script;
     while SCRIPTED <= left.len() {
-        let written = record::write(Record::Call(scripted(left, turn)));
+        let StepRead::Read(step) = scripted(left, turn) else {
+            break;
+        };
+        let written = record::write(Record::Call(step));
         let bytes = written.bytes;
         put(out, at, bytes);
         at = std::num::wrapping_add_usize(at, written.count);
