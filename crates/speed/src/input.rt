@@ -1,6 +1,7 @@
-// What the input says: the plan, numbers, a store's cells, the steps of a script. Past its end all is 0.
-use model::Topology;
+// What the input says: numbers, a store's cells, the steps of a script. Past its end all is 0.
 use record::StepRead;
+ghost use Prim.Native.Nat.{_≤_};
+ghost use lib.ListN.{length};
 
 // How many bytes a step of a script has, and where the plan starts.
 pub const SCRIPTED: usize = 6;
@@ -33,20 +34,15 @@ pub fn cells(store: &mut [u32], bytes: &[u8]) {
     }
 }
 
-pub fn plan(bytes: &[u8]) -> Topology {
-    let mut t = Topology {
-        processes: byte(bytes, PLAN),
-        channels: byte(bytes, PLAN + 1),
-        from: [0; 64],
-        to: [0; 64],
-    };
-    let mut c: usize = 0;
-    while c < 64 {
-        t.from[c] = byte(bytes, PLAN + 2 + 2 * c);
-        t.to[c] = byte(bytes, PLAN + 3 + 2 * c);
-        c += 1;
+// Where what comes after the plan starts; at the end where no plan can start.
+pub fn after_plan(bytes: &[u8]) -> usize
+    ensures { λ r. ⌜ r ≤ length (now (bytes .entry)) ⌝ }
+{
+    if bytes.len() < PLAN {
+        return bytes.len();
     }
-    t
+    let after = plan::rest(&bytes[PLAN..]);
+    bytes.len() - after.len()
 }
 
 // The first step of a script, or refusal 7; the turn is added to its body.

@@ -1,7 +1,8 @@
 // The work that bench/run measures. The input: a byte for the work, 4 for how often, the plan as in document 01, then a
 // script (six bytes a step: kind, process or channel, body; it ends before a kind that is none), a store's cells or
 // records; past its end all is 0. Printed is a checksum of each answer and of the last line, words, channels and store,
-// or of the store that another was carried into: 31 × sum + value, modulo 2^32.
+// or of the store that another was carried into: 31 × sum + value, modulo 2^32. Where the plan is refused there is no
+// work, and 0 is printed.
 mod carries;
 mod input;
 mod reads;
@@ -12,18 +13,24 @@ mod sum;
 mod writes;
 
 use crate::input::PLAN;
+use crate::input::after_plan;
 use crate::input::byte;
 use crate::input::number;
-use crate::input::plan;
 use libc::STDOUT_FILENO;
+use model::Verdict;
 
 fn work(bytes: &mut [u8]) -> u32 {
-    let times = number(bytes, 1);
-    let topology = plan(bytes);
-    let at = PLAN + 2 + 2 * (topology.channels as usize);
-    if bytes.len() < at {
+    if bytes.len() < PLAN {
         return 0;
     }
+    let times = number(bytes, 1);
+    let read = plan::read(&bytes[PLAN..]);
+    let verdict = read.verdict;
+    let Verdict::Pass = verdict else {
+        return 0;
+    };
+    let topology = read.topology;
+    let at = after_plan(bytes);
     match byte(bytes, 0) {
         1 => steps::run(topology, times, &bytes[at..]),
         2 => recovers::run(topology, times, &bytes[at..]),
