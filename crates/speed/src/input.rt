@@ -51,3 +51,8 @@ pub fn scripted(script: &[u8], turn: u32) -> StepRead {
     let body = std::num::wrapping_add_u32(number(script, 2), turn);
     record::step_of(byte(script, 0), index, index, body)
 }
+
+// A length as a value of the checksum.
+pub fn narrowed(length: usize) -> u32 {
+    (length % (rules::word::MODULUS as usize)) as u32
+}

@@ -1,4 +1,5 @@
 // Work 3: records read. A byte of the first record's body is another each time.
+use crate::input::narrowed;
 use crate::sum::fold;
 use crate::sum::record_code;
 
@@ -13,7 +14,7 @@ fn read_all(sum: u32, bytes: &[u8]) -> u32 {
         let after = record::rest(left);
         left = after;
     }
-    fold(r, (left.len() % 4294967296) as u32)
+    fold(r, narrowed(left.len()))
 }
 
 pub fn run(times: u32, bytes: &mut [u8]) -> u32 {

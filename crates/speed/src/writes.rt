@@ -1,6 +1,7 @@
 // Work 4: records written.
 use crate::input::SCRIPTED;
 use crate::input::byte;
+use crate::input::narrowed;
 use crate::input::scripted;
 use crate::sum::byte_sum;
 use crate::sum::fold;
@@ -46,7 +47,7 @@ pub fn run(times: u32, script: &[u8]) -> u32 {
     let mut i: u32 = 0;
     while i < times {
         let end = write_all(&mut out, script, i);
-        sum = fold(sum, (end % 4294967296) as u32);
+        sum = fold(sum, narrowed(end));
         sum = fold(sum, byte(&out, end / 2) as u32);
         i += 1;
     }

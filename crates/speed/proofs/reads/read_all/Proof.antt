@@ -62,6 +62,6 @@ read-all-spec =
     (λ c κs. search needs)
     loop-less
     loop-again
-    (λ c. search needs)
+    (λ c κs. search needs)
     (λ c κs. search needs)
     (λ c. search needs))
