@@ -27,12 +27,10 @@ const MARKER: u8 = 2;
 
 // So many processes and channels, each channel with both ends at process 0.
 pub fn sized(processes: u8, channels: u8) -> Topology {
-    Topology {
-        processes,
-        channels,
-        from: [0; CHANNELS],
-        to: [0; CHANNELS],
-    }
+    let mut topology = rules::fresh::topology();
+    topology.processes = processes;
+    topology.channels = channels;
+    topology
 }
 
 // Two processes and channel 0 between these ends.
