@@ -190,12 +190,13 @@ fn other_counts() {
     );
 }
 
-// M-101 makes 31 × channel + body of word 0, modulo 2^32. Refusal 16 looks at counts alone, not at the channel.
+// M-101 makes 31 × channel + body of word 0, modulo 2^32; with body 5 that is, by hand, for channels 0, 1, 255, 256 and
+// the last number of 32 bits, what stands here. Refusal 16 looks at counts alone, not at the channel.
 fn logged_channels() {
-    let ok = replayed(0) == BODY
-        && replayed(1) == 31 + BODY
-        && replayed(255) == 31 * 255 + BODY
-        && replayed(256) == 31 * 256 + BODY
+    let ok = replayed(0) == 5
+        && replayed(1) == 36
+        && replayed(255) == 7910
+        && replayed(256) == 7941
         && replayed(4294967295) == 4294967270;
     tell(
         b"A restart enters a logged wire of any 32 bits as it stands.",
