@@ -116,6 +116,15 @@ pub fn with_marker(mut state: State, channel: usize) -> State {
     state
 }
 
+// Every process with its logical checkpoint, and every channel closed.
+pub fn with_all_set(mut state: State) -> State {
+    let mut flags = state.flags;
+    flags.logical = [true; PROCESSES];
+    flags.closed = [true; CHANNELS];
+    state.flags = flags;
+    state
+}
+
 pub fn with_closed(mut state: State, channel: usize) -> State {
     let mut flags = state.flags;
     flags.closed[channel % CHANNELS] = true;

@@ -7,6 +7,7 @@
 // two processes, channel 0 from 0 to 1 and channel 1 back. `send(1)`, `sent(2)`: on channel 1, and 2 places are left.
 mod expected;
 mod hand;
+mod kinds;
 mod starts;
 mod unsound;
 
@@ -221,4 +222,5 @@ fn main() {
     stored_counts();
     other_counts();
     logged_channels();
+    kinds::steps();
 }
