@@ -19,7 +19,7 @@ use Rattle.model.specs.Layout.{entryCell, entryFor}
 use Rattle.model.specs.State.{GlobalState, Progress, LogCounts, raisedAll}
 use Rattle.model.specs.Change.{withWord, withTag, withChannel, withProgress, withCounts, withLogical, withClosed}
 use Rattle.model.specs.Change.{setEntries, enterMessage, logicalCheckpoint, close}
-use Rattle.model.specs.Receive.{anyFull}
+use Rattle.model.specs.Receive.{logIf, anyFull}
 use Rattle.model.specs.Receive as receive
 use Rattle.model.specs.Write.{cellWrites, appendWrites, logWrites, logsWrites}
 use Rattle.model.specs.Step.{react}
@@ -27,7 +27,7 @@ use Rattle.model.specs.Form as form
 use Rattle.model.proofs.laws.Tests.{true-is-not-false, or-left, or-true, or-false}
 use Rattle.model.proofs.laws.Functions.{upd-unchanged}
 use Rattle.rules.specs.declared.reaction.Reaction.{Reaction}
-use Rattle.rules.specs.Reacting.{logIf, viewReaction}
+use Rattle.rules.specs.Reacting.{viewReaction}
 use Rattle.engine.specs.declared.receive.Setting.{Setting}
 use Rattle.engine.specs.Spent.{Spent, appendIf}
 use Rattle.engine.specs.Receiving.{InArrays, countsIn, full, wordAfter, progressAfter}

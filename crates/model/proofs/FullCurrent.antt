@@ -19,6 +19,7 @@ use Rattle.model.specs.Heard.{accepted}
 use Rattle.model.specs.State.{GlobalState, LogCounts, countOf}
 use Rattle.model.specs.Write.{underBudget, inFull, clearWrites, physicalWrites, cellWrites, appendWrites}
 use Rattle.model.specs.Write.{logWrites, logsWrites, commitWrites}
+use Rattle.model.specs.Receive.{receiverAt}
 use Rattle.model.specs.Step.{reaction, quietly, nextLine, receive, effect, step, answer}
 use Rattle.model.specs.FullCurrent.{mostWrites, FullCurrent}
 use Rattle.model.proofs.laws.Tests.{true-is-not-false}
@@ -80,8 +81,8 @@ receive-few s c [] = omega arith
 receive-few s c (e ∷ es) =
     let r : ℕ = receiver (s .topology) c in
     let few : length (reaction s c e .logs) ≤ 2 =
-    two-logs c r (reaction s c e .logs) (reaction-apart (s .round .phase) c r _ _ e)
-    (reaction-logs (OneOf c r) (s .round .phase) c r _ _ e (message refl) (channel refl)) in
+    two-logs c r (reaction s c e .logs) (reaction-apart (s .round .phase) c (receiverAt s r) e)
+    (reaction-logs (OneOf c r) (s .round .phase) c (receiverAt s r) e (message refl) (channel refl)) in
     omega (arith, logs-few (nextLine s) (s .counts) (reaction s c e .logs) (receiptOf c e))
 
 -- begin clears a count for each process and each channel

@@ -24,7 +24,7 @@ use Rattle.model.specs.Sound.{sound}
 use Rattle.model.specs.Outcome.{refused, cut}
 use Rattle.model.specs.Heard.{accepted}
 use Rattle.model.specs.Write.{underBudget}
-use Rattle.model.specs.Receive.{logsOnly, reactionTo}
+use Rattle.model.specs.Receive.{logsOnly, reactionTo, receiverAt}
 use Rattle.model.specs.Step.{reaction, firstReaction, markerOnClosed, priorChecks, roomChecks, logChecks}
 use Rattle.model.specs.Step.{ownChecks}
 use Rattle.model.specs.Step.{stepChecks, quietly, resultOf, step, answer}
@@ -92,7 +92,8 @@ module _ (s : GlobalState) (st : List ℕ) (h : History) (fit : sound s ≡ true
       go : (ph : Phase) → s .round .phase ≡ ph → (es : List Entry) → s .channel c ≡ es
           → (firstReaction s c es .closes && s .progress .closed c) ≡ false
       go ph e [] is = refl
-      go ph e (Message b t ∷ es) is = rw (message-open (s .round .phase) c (receiver (s .topology) c) _ _ b t)
+      go ph e (Message b t ∷ es) is =
+          rw (message-open (s .round .phase) c (receiverAt s (receiver (s .topology) c)) b t)
       go phase.Idle e (Marker ∷ es) is = rw e
       go (phase.Physical next) e (Marker ∷ es) is = rw e
       go phase.Logical e (Marker ∷ es) is = rw e (i .unclosed e c l is)

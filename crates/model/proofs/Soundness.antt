@@ -123,7 +123,7 @@ module _ (rule : ChannelRule) (s : GlobalState) (h : SoundBy rule s) where
       record {
         topology = h .topology;
         channels = channels;
-        logs = all-raised-fits (s .topology) _ (s .counts) (reaction-apart (s .round .phase) c _ _ _ e) f (h .logs);
+        logs = all-raised-fits (s .topology) _ (s .counts) (reaction-apart (s .round .phase) c _ e) f (h .logs);
         phase = h .phase;
         line = h .line;
       })

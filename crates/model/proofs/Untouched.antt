@@ -23,7 +23,7 @@ use Rattle.model.specs.Layout.{countCell}
 use Rattle.model.specs.State.{GlobalState, LogCounts, countOf}
 use Rattle.model.specs.Write.{Write, writeAll, underBudget, clearWrites, physicalWrites, logWrites, logsWrites}
 use Rattle.model.specs.Write.{commitWrites}
-use Rattle.model.specs.Receive.{anyFull}
+use Rattle.model.specs.Receive.{receiverAt, anyFull}
 use Rattle.model.specs.Start.{startupOr, initializeRefusal, initialize, initializeWrites}
 use Rattle.model.specs.Step.{logChecks, nextLine, quietly, reaction, firstReaction, receive, effect, step, answer}
 use Rattle.model.specs.Untouched.{InStore, Untouched}
@@ -82,7 +82,7 @@ unfolding receive quietly firstReaction reaction
 receive-below s ok c l [] room = tt
 receive-below s ok c l (e ∷ es) room =
     logs-below (s .topology) ok (nextLine s) (s .counts) _ (receiptOf c e)
-    (reaction-logs (Planned (s .topology)) (s .round .phase) c (receiver (s .topology) c) _ _ e
+    (reaction-logs (Planned (s .topology)) (s .round .phase) c (receiverAt s (receiver (s .topology) c)) e
     (receiver-planned (s .topology) ok c l) l)
     room
 

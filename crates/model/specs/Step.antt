@@ -22,7 +22,7 @@ use Rattle.model.specs.State.{GlobalState, noCounts, noProgress, raisedA
 use Rattle.model.specs.Sound.{sound, lastLine}
 use Rattle.model.specs.Change.{withTag, withChannel, withProgress, withCounts, inPhase, setEntries}
 use Rattle.model.specs.Change.{enterMessage, logicalCheckpoint, close, recordSent, plainChannels, endRound}
-use Rattle.model.specs.Receive.{Reaction, logsOnly, reactionTo, anyFull}
+use Rattle.model.specs.Receive.{Reaction, logsOnly, reactionTo, receiverAt, anyFull}
 use Rattle.model.specs.Write.{Result, Answered, underBudget, clearWrites, physicalWrites, logsWrites}
 use Rattle.model.specs.Write.{commitWrites}
 
@@ -45,8 +45,7 @@ mayCommit s =
 
 -- what an entry of channel c does to its receiver, as the state stands
 unfoldable pub reaction : GlobalState → ℕ → Entry → Reaction
-reaction s c e =
-    let r : ℕ = receiver (s .topology) c in reactionTo (s .round .phase) c r (s .progress .logical r) (s .tag r) e
+reaction s c e = reactionTo (s .round .phase) c (receiverAt s (receiver (s .topology) c)) e
 
 -- what the first of these entries does; where there is none, nothing
 unfoldable pub firstReaction : GlobalState → ℕ → List Entry → Reaction

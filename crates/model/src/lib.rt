@@ -58,6 +58,13 @@ pub struct Receipt {
     pub body: u32,
 }
 
+// The receiver of an entry as it finds it: its number, whether it has its logical checkpoint, and its tag.
+pub struct Receiver {
+    pub process: u8,
+    pub logical: bool,
+    pub tag: bool,
+}
+
 // What the round under way has done: the processes that have their logical checkpoint (marked boards), the channels
 // that are closed, and those on which the marker was sent (note put).
 pub struct Flags {

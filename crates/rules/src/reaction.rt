@@ -3,6 +3,7 @@ use model::Entry;
 use model::Outcome;
 use model::Phase;
 use model::Receipt;
+use model::Receiver;
 ghost use mathlib.Core.Path.{_≡_};
 ghost use Rattle.model.specs.Outcome.{saidBy};
 ghost use Rattle.model.specs.Channel.{bodyOf, receiptOf};
@@ -30,23 +31,21 @@ fn logs(needed: bool) -> Reaction
     }
 }
 
-// What an entry does to a receiver, which may have its logical checkpoint and has this tag.
-pub fn react(phase: Phase, receiver: u8, logical: bool, tag: bool, e: Entry) -> Reaction
-    ensures { λ r. ⌜ Reacts phase receiver logical tag e r ⌝ }
+// What an entry does to its receiver.
+pub fn react(phase: Phase, r: Receiver, e: Entry) -> Reaction
+    ensures { λ x. ⌜ Reacts phase r e x ⌝ }
 {
     match e {
-        Entry::Message { body: _, tag: sent } => match phase {
+        Entry::Message { body: _, tag } => match phase {
             Phase::Idle => logs(false),
-            Phase::Physical(next) => logs(receiver < next),
+            Phase::Physical(next) => logs(r.process < next),
             Phase::Logical => {
-                if sent == tag {
-                    return logs(!logical);
-                }
+                let differs = tag != r.tag;
                 Reaction {
-                    logical_first: !logical,
+                    logical_first: !r.logical & differs,
                     closes: false,
-                    channel_log: logical,
-                    message_log: false,
+                    channel_log: r.logical & differs,
+                    message_log: !(r.logical | differs),
                 }
             }
         },
@@ -54,7 +53,7 @@ pub fn react(phase: Phase, receiver: u8, logical: bool, tag: bool, e: Entry) -> 
             Phase::Idle => logs(false),
             Phase::Physical(_) => logs(false),
             Phase::Logical => Reaction {
-                logical_first: !logical,
+                logical_first: !r.logical,
                 closes: true,
                 channel_log: false,
                 message_log: false,

@@ -2,15 +2,17 @@
 -- twice.
 use Prim.Native.Nat.{ℕ}
 use mathlib.Core.Path.{_≡_}
-use mathlib.Core.Bool.{Bool, true, false, Bool·beq}
-use mathlib.Core.List.{List, [], _∷_}
+use mathlib.Core.Bool.{Bool, true, false, not, _&&_, _||_, Bool·beq}
+use mathlib.Core.List.{List, [], _∷_, _++_}
 use lib.Dec.{ltb}
+use native.Mathlib.Omega.{arith}
 use Rattle.model.specs.declared.Phase.{Phase}
 use Rattle.model.specs.declared.Phase.the-variants.{Idle, Physical, Logical}
+use Rattle.model.specs.declared.Receiver.{Receiver}
 use Rattle.model.specs.declared.Entry.{Entry}
 use Rattle.model.specs.declared.Entry.the-variants.{Message, Marker}
 use Rattle.model.specs.Layout.{Log, messageLog, channelLog}
-use Rattle.model.specs.Receive.{Reaction, logsOnly, reactionTo}
+use Rattle.model.specs.Receive.{logsOnly, logIf, reactionTo}
 use Rattle.model.proofs.laws.Tests.{either}
 
 -- logs of which none comes twice
@@ -22,29 +24,42 @@ abbrev pub Apart : List Log → Type 0
 Apart [] = Unit {0}
 Apart (log ∷ logs) = Unlike log logs × Apart logs
 
-pub reaction-apart : (phase : Phase) (c r : ℕ) (logical tag : Bool) (e : Entry)
-    → Apart (reactionTo phase c r logical tag e .logs)
+both-apart : (a b : Bool) (c r : ℕ) → Apart (logIf a (channelLog c) ++ logIf b (messageLog r))
+both-apart true true c r = ((λ e. let z : _≡_ {A = ℕ} 0 1 = cc in omega arith, tt), (tt, tt))
+both-apart true false c r = (tt, tt)
+both-apart false true c r = (tt, tt)
+both-apart false false c r = tt
+
+pub reaction-apart : (phase : Phase) (c : ℕ) (r : Receiver) (e : Entry) → Apart (reactionTo phase c r e .logs)
 unfolding reactionTo logsOnly
-reaction-apart Idle c r logical tag e = tt
-reaction-apart (Physical next) c r logical tag (Message b t) = either Apart (ltb r next) _ _ (tt, tt) tt
-reaction-apart (Physical next) c r logical tag Marker = tt
-reaction-apart Logical c r true tag (Message b t) = either Apart (Bool·beq t tag) _ _ tt (tt, tt)
-reaction-apart Logical c r false tag (Message b t) =
-    either (λ (x : Reaction). Apart (x .logs)) (Bool·beq t tag) _ _ (tt, tt) tt
-reaction-apart Logical c r logical tag Marker = tt
+reaction-apart Idle c r e = tt
+reaction-apart (Physical next) c r (Message b t) = either Apart (ltb (r .process) next) _ _ (tt, tt) tt
+reaction-apart (Physical next) c r Marker = tt
+reaction-apart Logical c r (Message b t) =
+    let differs : Bool = not (Bool·beq t (r .tag)) in
+    both-apart (r .logical && differs) (not (r .logical || differs)) c (r .process)
+reaction-apart Logical c r Marker = tt
 
 -- each log that an entry needs is its receiver's message log or its channel's log
 abbrev pub EachLog : (Log → Type 0) → List Log → Type 0
 EachLog P [] = Unit {0}
 EachLog P (log ∷ logs) = P log × EachLog P logs
 
-pub reaction-logs : (P : Log → Type 0) (ph : Phase) (c r : ℕ) (logical tag : Bool) (e : Entry) → P (messageLog r)
-    → P (channelLog c) → EachLog P (reactionTo ph c r logical tag e .logs)
+both-logs : (P : Log → Type 0) (a b : Bool) (c r : ℕ) → P (messageLog r) → P (channelLog c)
+    → EachLog P (logIf a (channelLog c) ++ logIf b (messageLog r))
+both-logs P true true c r m k = (k, (m, tt))
+both-logs P true false c r m k = (k, tt)
+both-logs P false true c r m k = (m, tt)
+both-logs P false false c r m k = tt
+
+pub reaction-logs : (P : Log → Type 0) (ph : Phase) (c : ℕ) (r : Receiver) (e : Entry) → P (messageLog (r .process))
+    → P (channelLog c) → EachLog P (reactionTo ph c r e .logs)
 unfolding reactionTo logsOnly
-reaction-logs P Idle c r logical tag e m k = tt
-reaction-logs P (Physical next) c r logical tag (Message b t) m k = either (EachLog P) (ltb r next) _ _ (m, tt) tt
-reaction-logs P (Physical next) c r logical tag Marker m k = tt
-reaction-logs P Logical c r true tag (Message b t) m k = either (EachLog P) (Bool·beq t tag) _ _ tt (k, tt)
-reaction-logs P Logical c r false tag (Message b t) m k =
-    either (λ (x : Reaction). EachLog P (x .logs)) (Bool·beq t tag) _ _ (m, tt) tt
-reaction-logs P Logical c r logical tag Marker m k = tt
+reaction-logs P Idle c r e m k = tt
+reaction-logs P (Physical next) c r (Message b t) m k =
+    either (EachLog P) (ltb (r .process) next) _ _ (m, tt) tt
+reaction-logs P (Physical next) c r Marker m k = tt
+reaction-logs P Logical c r (Message b t) m k =
+    let differs : Bool = not (Bool·beq t (r .tag)) in
+    both-logs P (r .logical && differs) (not (r .logical || differs)) c (r .process) m k
+reaction-logs P Logical c r Marker m k = tt

@@ -1,8 +1,9 @@
 -- What a receive makes of each part of the state, by what the entry does to its receiver.
 use Prim.Native.Nat.{ℕ}
 use mathlib.Core.Path.{_≡_, refl}
-use mathlib.Core.Bool.{Bool, true, false, cond, not, Bool·beq}
+use mathlib.Core.Bool.{Bool, true, false, cond, not}
 use mathlib.Core.List.{List, _∷_}
+use Rattle.model.specs.declared.Receiver.{Receiver}
 use Rattle.model.specs.declared.Phase.{Phase}
 use Rattle.model.specs.declared.Phase.the-variants.{Idle, Physical, Logical}
 use Rattle.model.specs.declared.Entry.{Entry}
@@ -15,7 +16,6 @@ use Rattle.model.specs.Change.{withWord, withTag, withChannel, withProgr
 use Rattle.model.specs.Change.{setEntries, enterMessage, logicalCheckpoint, close}
 use Rattle.model.specs.Receive.{Reaction, logsOnly, reactionTo}
 use Rattle.model.specs.Step.{reaction, react, receive}
-use Rattle.model.proofs.laws.Tests.{either}
 
 -- s after an entry of channel c with reaction x went to its receiver r: the channel has these entries left, and the
 -- words are w's
@@ -64,11 +64,9 @@ receive-takes s c e es =
     reacted s c (receiver (s .topology) c) es (x .logicalFirst) (x .closes) (x .logs) e
 
 -- a message closes no channel
-pub message-open : (phase : Phase) (c r : ℕ) (logical tag : Bool) (b : ℕ) (t : Bool)
-    → reactionTo phase c r logical tag (Message b t) .closes ≡ false
+pub message-open : (phase : Phase) (c : ℕ) (r : Receiver) (b : ℕ) (t : Bool)
+    → reactionTo phase c r (Message b t) .closes ≡ false
 unfolding reactionTo logsOnly
-message-open Idle c r logical tag b t = refl
-message-open (Physical next) c r logical tag b t = refl
-message-open Logical c r true tag b t = refl
-message-open Logical c r false tag b t =
-    either (λ (x : Reaction). x .closes ≡ false) (Bool·beq t tag) _ _ refl refl
+message-open Idle c r b t = refl
+message-open (Physical next) c r b t = refl
+message-open Logical c r b t = refl

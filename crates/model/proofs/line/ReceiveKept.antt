@@ -164,7 +164,7 @@ module _ (s : GlobalState) (st : List ℕ) (h : History) (c : ℕ) (l : c < s .t
 
       after : s .progress .logical r ≡ true → Tested (Bool·beq u (s .tag r))
           → Kept (reaction s c (Message b u)) (Message b u) es
-      unfolding reaction reactionTo bookOf tagged
+      unfolding reaction reactionTo logsOnly bookOf tagged
       after e (holds q) =
           into-none (rw (phase, e, q)) (on-marked (s .topology) c b h (process-in i phase r rl .round .mark) e)
           (rw phase (received-after c b e (process-in i phase r rl)))
@@ -181,7 +181,7 @@ module _ (s : GlobalState) (st : List ℕ) (h : History) (c : ℕ) (l : c < s .t
       -- with one that has none yet: an old message, and a new one, which gives it its logical checkpoint first
       before-old : s .progress .logical r ≡ false → Bool·beq u (s .tag r) ≡ true
           → Kept (reaction s c (Message b u)) (Message b u) es
-      unfolding reaction reactionTo bookOf seenOf tagged
+      unfolding reaction reactionTo logsOnly bookOf seenOf tagged
       before-old e q =
           let old : u ≡ i .tag = beq-same _ _ q ∙ own-tag false e in
           into-message (rw (phase, e, q))
