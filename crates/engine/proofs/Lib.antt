@@ -11,6 +11,5 @@ pub mod Turning
 pub mod Phases
 pub mod WriteBack
 pub mod Receptions
-pub mod Attempting
 pub mod ReceiveMeets
 pub mod Runs

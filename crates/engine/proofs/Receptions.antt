@@ -1,5 +1,5 @@
--- How a receive's parts make up what the definition has: whether a log needed is full, the writes, the counts, and the
--- state after it.
+-- How a receive's parts make up what the definition has: whether a log needed is full, where in the store it has its
+-- place, the writes, and what becomes of flags and counts.
 use Prim.Native.Nat.{ℕ, _+_, _*_, _<_, _≤_, _%_, _^_}
 use mathlib.Core.Path.{_≡_, refl, sym, ap, subst, _∙_}
 use mathlib.Core.Bool.{Bool, true, false, cond, not, _&&_, _||_, Bool·beq}
@@ -10,28 +10,20 @@ use lib.Dec.{leb}
 use borrow.Author.Tests.{leb-false}
 use native.Mathlib.Omega.{arith}
 use Rattle.model.specs.declared.Receipt.{Receipt}
-use Rattle.model.specs.declared.Entry.{Entry}
-use Rattle.model.specs.declared.Entry.the-variants.{Message, Marker}
 use Rattle.model.specs.Notation.{upd}
 use Rattle.model.specs.Layout.{storeCells, slot, Log, messageLog, channelLog}
 use Rattle.model.specs.Layout.{messagePlaces, channelPlaces, messageEntryCells, channelEntryCells, countCell}
 use Rattle.model.specs.Layout.{entryCell, entryFor}
-use Rattle.model.specs.State.{GlobalState, Progress, LogCounts, raisedAll}
-use Rattle.model.specs.Change.{withWord, withTag, withChannel, withProgress, withCounts, withLogical, withClosed}
-use Rattle.model.specs.Change.{setEntries, enterMessage, logicalCheckpoint, close}
+use Rattle.model.specs.State.{LogCounts, raised, raisedAll}
 use Rattle.model.specs.Receive.{logIf, anyFull}
-use Rattle.model.specs.Receive as receive
 use Rattle.model.specs.Write.{cellWrites, appendWrites, logWrites, logsWrites}
-use Rattle.model.specs.Step.{react}
 use Rattle.model.specs.Form as form
 use Rattle.model.proofs.laws.Tests.{true-is-not-false, or-left, or-true, or-false}
-use Rattle.model.proofs.laws.Functions.{upd-unchanged}
 use Rattle.rules.specs.declared.reaction.Reaction.{Reaction}
-use Rattle.rules.specs.Reacting.{viewReaction}
-use Rattle.engine.specs.declared.receive.Setting.{Setting}
+use Rattle.engine.specs.declared.spot.Spot.{Spot}
 use Rattle.engine.specs.Spent.{Spent, appendIf}
-use Rattle.engine.specs.Receiving.{InArrays, countsIn, full, wordAfter, progressAfter}
-use Rattle.engine.proofs.Views.{same-state}
+use Rattle.engine.specs.Receiving.{Fits, fullFor}
+use Rattle.engine.proofs.Turning.{unchanged}
 
 pub a-bit : (t : Bool) → boolByte t ≤ 1
 a-bit true = omega arith
@@ -58,10 +50,22 @@ module _ (n : LogCounts) (c p : ℕ) where
   both-written line r false true = refl
   both-written line r false false = refl
 
+  pub both-raised : (a b : Bool)
+      → raisedAll (logIf a (channelLog c) ++ logIf b (messageLog p)) n
+      ≡ record {
+        messages = cond b (upd (n .messages) p (n .messages p + 1)) (n .messages);
+        channels = cond a (upd (n .channels) c (n .channels c + 1)) (n .channels);
+      }
+  unfolding raisedAll raised
+  both-raised true true = refl
+  both-raised true false = refl
+  both-raised false true = refl
+  both-raised false false = refl
+
 -- an append at a cell that is known by another name
-pub moved : {st st′ : List ℕ} {b b′ : ℕ} (t : Bool) (at at′ count : ℕ) (entry : List ℕ) → at ≡ at′
+pub moved : {st st′ : List ℕ} {b b′ at at′ : ℕ} (t : Bool) (count : ℕ) (entry : List ℕ) → at ≡ at′
     → Spent st b (appendIf t at count entry) st′ b′ → Spent st b (appendIf t at′ count entry) st′ b′
-moved {st} {st′} {b} {b′} t at at′ count entry e p = subst (λ (a : ℕ). Spent st b (appendIf t a count entry) st′ b′) e p
+moved {st} {st′} {b} {b′} t count entry e p = subst (λ (a : ℕ). Spent st b (appendIf t a count entry) st′ b′) e p
 
 -- how many writes that are
 pub both-cost : (a b : Bool) (m k i j c p : ℕ) (r : Receipt)
@@ -74,10 +78,11 @@ both-cost false true m k i j c p r = refl
 both-cost false false m k i j c p r = refl
 
 -- the slot goes by the line's parity, so that a line that wraps has the right one
-pub same-cell : (k : ℕ) (log : Log) → countCell ((k + 1) % 2 ^ 32) log ≡ countCell (k + 1) log
+pub same-cell : (k : ℕ) (log : Log) {n at : ℕ} → n ≡ (k + 1) % 2 ^ 32 → at ≡ countCell n log
+    → at ≡ countCell (k + 1) log
 unfolding form.countCell form.processRecord form.channelRecord form.slot
-same-cell k (messageLog p) = omega arith
-same-cell k (channelLog c) = omega arith
+same-cell k (messageLog p) e f = omega arith
+same-cell k (channelLog c) e f = omega arith
 
 -- a test of two, each of them one of two, that fails
 first : (t : Bool) (m k : ℕ) (u : Bool) → t ≡ true → ((t && leb m k) || u) ≡ false → k < m
@@ -89,107 +94,43 @@ second true true m k e f = true-is-not-false refl f
 second true false m k e f = leb-false m k f
 second false u m k e f = true-is-not-false e refl
 
-module _ (x : Reaction) (a : Setting) where
-  pub full-test : full x a
-      ≡ ((x .«channel_log» && leb channelPlaces (a .«in_channel»))
-      || (x .«message_log» && leb messagePlaces (a .«in_messages»)))
-  unfolding viewReaction
-  full-test = either-full (countsIn a) (a .channel) (a .receiver) (x .«channel_log») (x .«message_log»)
+-- no log needed is full: the place for one entry more is in the store
+module _ (x : Reaction) (s : Spot) (h : Fits s) (roomy : fullFor x s ≡ false) (line : ℕ) where
+  pub channel-place : x .«channel_log» ≡ true
+      → entryCell channelEntryCells (countCell line (channelLog (s .channel))) (s .«in_channel») + channelEntryCells
+      ≤ storeCells
+  unfolding form.countCell form.channelRecord form.slot
+  channel-place e = omega (arith, h .channel, first (x .«channel_log») channelPlaces (s .«in_channel») _ e roomy)
 
-  -- no log needed is full: the place for one entry more is in the store
-  module _ (h : InArrays a) (roomy : full x a ≡ false) (line : ℕ) where
-    pub channel-place : x .«channel_log» ≡ true
-        → entryCell channelEntryCells (countCell line (channelLog (a .channel))) (a .«in_channel») + channelEntryCells
-        ≤ storeCells
-    unfolding form.countCell form.channelRecord form.slot
-    channel-place e = omega (arith, h .channel, below)
-      where
-        below : a .«in_channel» < channelPlaces
-        below = first (x .«channel_log») channelPlaces _ _ e (sym full-test ∙ roomy)
+  pub message-place : x .«message_log» ≡ true
+      → entryCell messageEntryCells (countCell line (messageLog (s .process))) (s .«in_messages») + messageEntryCells
+      ≤ storeCells
+  unfolding form.countCell form.processRecord form.slot
+  message-place e = omega (arith, h .receiver, below)
+    where
+      below : s .«in_messages» < messagePlaces
+      below =
+          second (x .«message_log») (x .«channel_log» && leb channelPlaces (s .«in_channel»)) messagePlaces _ e roomy
 
-    pub message-place : x .«message_log» ≡ true
-        → entryCell messageEntryCells (countCell line (messageLog (a .receiver))) (a .«in_messages») + messageEntryCells
-        ≤ storeCells
-    unfolding form.countCell form.processRecord form.slot
-    message-place e = omega (arith, h .receiver, below)
-      where
-        below : a .«in_messages» < messagePlaces
-        below =
-            second (x .«message_log») (x .«channel_log» && leb channelPlaces (a .«in_channel»)) messagePlaces _ e
-            (sym full-test ∙ roomy)
+beq-true : (b : Bool) → Bool·beq b true ≡ b
+beq-true true = refl
+beq-true false = refl
 
--- a flag raised, and a tag turned over, where that is so
-flag-after : (f : ℕ → Bool) (i : ℕ) (t : Bool) → cond t (upd f i true) f ≡ upd f i (f i || t)
-flag-after f i true = ap (upd f i) (sym (or-true (f i)))
-flag-after f i false = sym (ap (upd f i) (or-false (f i)) ∙ upd-unchanged f i)
+beq-false : (b : Bool) → not (Bool·beq b false) ≡ b
+beq-false true = refl
+beq-false false = refl
 
-tag-after : (f : ℕ → Bool) (i : ℕ) (t : Bool) → cond t (upd f i (not (f i))) f ≡ upd f i (not (Bool·beq (f i) t))
-tag-after f i true = ap (upd f i) (sym (turned (f i)))
-  where
-    turned : (t : Bool) → not (Bool·beq t true) ≡ not t
-    turned true = refl
-    turned false = refl
-tag-after f i false = sym (ap (upd f i) (kept (f i)) ∙ upd-unchanged f i)
-  where
-    kept : (t : Bool) → not (Bool·beq t false) ≡ t
-    kept true = refl
-    kept false = refl
+-- a flag raised, a tag turned over and a count raised, where that is so
+module _ (f : ℕ → Bool) (i : ℕ) {b : Bool} (e : f i ≡ b) where
+  pub flagged : (t : Bool) → cond t (upd f i true) f ≡ upd f i (b || t)
+  flagged true = ap (upd f i) (sym (or-true b))
+  flagged false = sym (unchanged f i (b || false) (e ∙ sym (or-false b)))
 
--- the state after it, part by part
-module _ (c r : ℕ) (s : GlobalState) where
-  word-entered : (e : Entry) → enterMessage c r e s ≡ withWord (upd (s .word) r (wordAfter c e (s .word r))) s
-  unfolding enterMessage withWord wordAfter
-  word-entered (Message b t) = refl
-  word-entered Marker = same-state refl refl (sym (upd-unchanged (s .word) r)) refl refl refl refl
+  pub turned : (t : Bool) → cond t (upd f i (not (f i))) f ≡ upd f i (not (Bool·beq b t))
+  turned true = ap (upd f i) (ap not e ∙ sym (ap not (beq-true b)))
+  turned false = sym (unchanged f i (not (Bool·beq b false)) (e ∙ sym (beq-false b)))
 
-  abbrev saved : Bool → GlobalState
-  saved first = cond first (logicalCheckpoint r s) s
-
-  abbrev reacted : Bool → Bool → GlobalState
-  reacted first closes =
-      withTag (upd (s .tag) r (not (Bool·beq (s .tag r) first)))
-      (withProgress (progressAfter first closes c r (s .progress)) s)
-
-  -- its progress
-  abbrev raised-flags : (first closes : Bool)
-      → _≡_ {A = Progress}
-      (record {
-        logical = cond first (upd (s .progress .logical) r true) (s .progress .logical);
-        closed = cond closes (upd (s .progress .closed) c true) (s .progress .closed);
-        sent = s .progress .sent;
-      })
-      (record {
-        logical = upd (s .progress .logical) r (s .progress .logical r || first);
-        closed = upd (s .progress .closed) c (s .progress .closed c || closes);
-        sent = s .progress .sent;
-      })
-  raised-flags first closes =
-      λ i. record {
-        logical = flag-after (s .progress .logical) r first i;
-        closed = flag-after (s .progress .closed) c closes i;
-        sent = s .progress .sent;
-      }
-
-  reacts : (first closes : Bool) → cond closes (close c (saved first)) (saved first) ≡ reacted first closes
-  unfolding close logicalCheckpoint withTag withProgress withLogical withClosed progressAfter
-  reacts true true = same-state refl refl refl (tag-after (s .tag) r true) refl (raised-flags true true) refl
-  reacts true false = same-state refl refl refl (tag-after (s .tag) r true) refl (raised-flags true false) refl
-  reacts false true = same-state refl refl refl (tag-after (s .tag) r false) refl (raised-flags false true) refl
-  reacts false false = same-state refl refl refl (tag-after (s .tag) r false) refl (raised-flags false false) refl
-
-pub received : (c r : ℕ) (s : GlobalState) (x : receive.Reaction) (e : Entry) (es : List Entry)
-    → enterMessage c r e (setEntries c es (react x c r s))
-    ≡ record {
-      topology = s .topology;
-      round = s .round;
-      word = upd (s .word) r (wordAfter c e (s .word r));
-      tag = upd (s .tag) r (not (Bool·beq (s .tag r) (x .logicalFirst)));
-      channel = upd (s .channel) c es;
-      progress = progressAfter (x .logicalFirst) (x .closes) c r (s .progress);
-      counts = raisedAll (x .logs) (s .counts);
-    }
-unfolding react setEntries withWord withTag withChannel withProgress withCounts
-received c r s x e es =
-    ap (λ (t : GlobalState). enterMessage c r e (setEntries c es t))
-    (reacts c r (withCounts (raisedAll (x .logs) (s .counts)) s) (x .logicalFirst) (x .closes))
-    ∙ word-entered c r _ e
+pub counted : (f : ℕ → ℕ) (i : ℕ) {n : ℕ} → f i ≡ n → (t : Bool)
+    → cond t (upd f i (f i + 1)) f ≡ upd f i (n + boolByte t)
+counted f i e true = rw e
+counted f i {n} e false = sym (unchanged f i (n + 0) (omega arith))

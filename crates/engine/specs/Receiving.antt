@@ -1,88 +1,65 @@
--- What a receive does, by its entry's reaction, in terms of what the code has at hand: the setting. What turns it down,
--- what it writes, and what becomes of its receiver's word and of the round's progress.
-use Prim.Native.Nat.{ℕ, _+_, _<_}
+-- What a receive does by its entry's reaction, in terms of what the code has at hand, the spot: whether a log needed is
+-- full, what is written, and what becomes of the receiver's word.
+use Prim.Native.Nat.{ℕ, _+_, _<_, _≤_}
 use mathlib.Core.Path.{_≡_}
-use mathlib.Core.Bool.{Bool, true, cond, _&&_, _||_}
-use mathlib.Core.List.{List, [], _∷_}
-use mathlib.Core.Option.{Option, none, some}
-use lib.Dec.{eqb}
-use Rattle.model.specs.declared.State.{State}
-use Rattle.model.specs.declared.Answer.{Answer}
+use mathlib.Core.Bool.{Bool, not, _&&_, _||_, Bool·beq}
+use mathlib.Core.List.{List, _++_}
+use mir.Val.{boolByte}
+use lib.ListN.{drop}
+use lib.Dec.{leb}
 use Rattle.model.specs.declared.Receipt.{Receipt}
+use Rattle.model.specs.declared.Receiver.{Receiver}
 use Rattle.model.specs.declared.Entry.{Entry}
 use Rattle.model.specs.declared.Entry.the-variants.{Message, Marker}
-use Rattle.model.specs.Notation.{upd}
-use Rattle.model.specs.Check.{Check, _gives_, firstRefusal}
 use Rattle.model.specs.Word.{receipt, enter}
 use Rattle.model.specs.Topology.{processLimit, channelLimit}
-use Rattle.model.specs.Channel.{receiptOf}
-use Rattle.model.specs.Layout.{Log}
-use Rattle.model.specs.State.{GlobalState, Progress, LogCounts}
-use Rattle.model.specs.Receive.{anyFull}
-use Rattle.model.specs.Write.{Write, Result, underBudget, logsWrites}
-use Rattle.model.specs.Step.{quietly, receivedOutcome}
-use Rattle.model.specs.Outcome.{refused, saidBy}
-use Rattle.model.specs.Heard.{accepted}
+use Rattle.model.specs.Channel.{channelRoom, entries}
+use Rattle.model.specs.Layout.{Log, messageLog, channelLog, messagePlaces, channelPlaces, countCell, entryFor}
+use Rattle.model.specs.Write.{Write}
 use Rattle.rules.specs.declared.reaction.Reaction.{Reaction}
-use Rattle.rules.specs.Reacting.{viewReaction}
-use Rattle.engine.specs.declared.receive.Setting.{Setting}
-use Rattle.engine.specs.declared.receive.Reception.{Reception}
+use Rattle.engine.specs.declared.spot.Spot.{Spot}
+use Rattle.engine.specs.Spent.{appendIf}
 
--- the code's arrays have the channel and the receiver
-pub record InArrays (a : Setting) : Type 0 where
-  pub channel : a .channel < channelLimit
-  pub receiver : a .receiver < processLimit
+-- what a spot has of a sound state: its channel and its receiver are in the arrays, the counts are no larger than the
+-- room that they count
+pub record Fits (s : Spot) : Type 0 where
+  pub channel : s .channel < channelLimit
+  pub receiver : s .process < processLimit
+  pub entries : s .held .count ≤ channelRoom
+  pub inChannel : s .«in_channel» ≤ channelPlaces
+  pub inMessages : s .«in_messages» ≤ messagePlaces
 
--- the logs' counts as far as the setting has them: of its channel and of its receiver
-abbrev pub countsIn : Setting → LogCounts
-countsIn a = record { messages = λ p. a .«in_messages»; channels = λ c. a .«in_channel» }
+-- the receiver
+abbrev pub receiverOf : Spot → Receiver
+receiverOf s = record { process = s .process; logical = s .logical; tag = s .tag }
 
--- the logs that the reaction needs, and whether one of them is full
-abbrev pub logsOf : Reaction → Setting → List Log
-logsOf x a = viewReaction (a .channel) (a .receiver) x .logs
+-- whether a log that the reaction needs is full
+abbrev pub fullFor : Reaction → Spot → Bool
+fullFor x s =
+    (x .«channel_log» && leb channelPlaces (s .«in_channel»))
+    || (x .«message_log» && leb messagePlaces (s .«in_messages»))
 
-abbrev pub full : Reaction → Setting → Bool
-full x a = anyFull (countsIn a) (logsOf x a)
+-- what a receipt writes into the logs that the reaction needs, for the line after this one
+abbrev pub intoLog : Bool → Spot → Log → ℕ → Receipt → List Write
+intoLog needed s log count r = appendIf needed (countCell (s .round .line + 1) log) count (entryFor log r)
 
--- refusals 10, 14 and 11
-abbrev pub receiveChecks : Reaction → Setting → List Check
-receiveChecks x a =
-    (eqb (a .entries) 0 gives 10) ∷ ((x .closes && a .closed) gives 14) ∷ (full x a gives 11) ∷ []
-
--- what a receipt writes, for the line after this one
-abbrev pub receiptWrites : Reaction → Setting → ℕ → Receipt → List Write
-receiptWrites x a line r = logsWrites (line + 1) (countsIn a) (logsOf x a) r
-
--- and what receiving an entry writes
-abbrev pub entryWrites : Reaction → Setting → ℕ → Entry → List Write
-entryWrites x a line e = receiptWrites x a line (receiptOf (a .channel) e)
+abbrev pub receiptWrites : Reaction → Spot → Receipt → List Write
+receiptWrites x s r =
+    intoLog (x .«channel_log») s (channelLog (s .channel)) (s .«in_channel») r
+    ++ intoLog (x .«message_log») s (messageLog (s .process)) (s .«in_messages») r
 
 unfoldable pub wordAfter : ℕ → Entry → ℕ → ℕ
 wordAfter c (Message b t) word = enter word (receipt c b)
 wordAfter c Marker word = word
 
--- the receiver r has its logical checkpoint, and channel c is closed, if that was so before or is so now
-unfoldable pub progressAfter : Bool → Bool → ℕ → ℕ → Progress → Progress
-progressAfter first closes c r p =
-    record {
-      logical = upd (p .logical) r (p .logical r || first);
-      closed = upd (p .closed) c (p .closed c || closes);
-      sent = p .sent;
-    }
-
--- what a receive does that is refused, or is not
-unfoldable pub unlessRefused : Option ℕ → GlobalState → Result → Result
-unlessRefused none s r = r
-unlessRefused (some n) s r = quietly (refused n) s
-
--- The promise of an attempt: outcome, writes and store are those of a receive of the entry e, whatever the states
--- before and after it; and where it comes off, nothing turned it down.
-pub record Attempts (x : Reaction) (a : Setting) (e : Entry) (line : ℕ) (before : List ℕ) (budget : ℕ) (r : Reception)
-    (after : List ℕ) : Type 0 where
-  pub answered : (s next : GlobalState)
-      → underBudget budget s before
-      (unlessRefused (firstRefusal (receiveChecks x a)) s
-      (record { outcome = receivedOutcome e; state = next; writes = entryWrites x a line e }))
-      ≡ record { outcome = saidBy (r .outcome); made = r .made; state = cond (r .received) next s; store = after }
-  pub received : accepted (saidBy (r .outcome)) ≡ r .received
-  pub passed : r .received ≡ true → firstRefusal (receiveChecks x a) ≡ none
+-- what the spot n has after an entry was received: a log's count is raised, and a tag turned over, where that is so
+pub record Received (s : Spot) (e : Entry) (x : Reaction) (n : Spot) : Type 0 where
+  pub round : n .round ≡ s .round
+  pub held : entries (n .held) ≡ drop 1 (entries (s .held))
+  pub word : n .word ≡ wordAfter (s .channel) e (s .word)
+  pub tag : n .tag ≡ not (Bool·beq (s .tag) (x .«logical_first»))
+  pub logical : n .logical ≡ (s .logical || x .«logical_first»)
+  pub closed : n .closed ≡ (s .closed || x .closes)
+  pub sent : n .sent ≡ s .sent
+  pub inChannel : n .«in_channel» ≡ s .«in_channel» + boolByte (x .«channel_log»)
+  pub inMessages : n .«in_messages» ≡ s .«in_messages» + boolByte (x .«message_log»)

@@ -1,116 +1,110 @@
--- `engine::receive::receive` meets its contract: an attempt that was stopped, or one that came off, after which the spot
--- is as the definition has it.
+-- `engine::receive::receive` meets its contract: refused with 10, 14 or 11, cut, or received.
 use borrow.Author.Needs.{needs}
-use borrow.Author.Tests.{not-true, not-false}
 use native.Mathlib.Omega.{arith}
-use Prim.Native.Nat.{ℕ}
-use mathlib.Core.Path.{_≡_, refl}
+use mathlib.Core.Path.{_≡_, sym, _∙_}
+use mathlib.Core.Bool.{false}
+use Rattle.model.specs.declared.Step.the-variants.{Receive}
 use Rattle.model.specs.declared.Entry.{Entry}
-use Rattle.rules.specs.declared.reaction.Reaction.{Reaction}
 use Rattle.engine.specs.declared.spot.Spot.{Spot}
-use Rattle.engine.proofs.Receptions.{a-bit}
-use Rattle.engine.proofs.ReceiveMeets.{ReceiveFits, receive-fits, has-entry, receive-stopped, receive-went}
+use Rattle.engine.specs.Receiving.{Fits, fullFor}
+use Rattle.engine.proofs.Turning.{Passes, turns-refused, turns-lost}
+use Rattle.engine.proofs.ReceiveMeets.{receive-fits, empty, Decided, checks, writes, receive-went}
 use Rattle.engine.proofs.receive.receive.Statement.{statement}
 use Rattle.engine.proofs.receive.receive.Tie as tie
 
--- once the reaction is decided
+-- the way through: the reaction is decided, no log is full, the logs are written
+abbrev reacted : tie.Else2 → tie.After-react
+reacted e = e .before .before .before
+
+abbrev roomy : tie.After-log → tie.Else3
+roomy l = l .before .before .before
+
+abbrev logged : tie.Else4 → tie.After-log
+logged e = e .before .before .before
+
 module _ (p : tie.After-react) where
-  abbrev read : tie.After-entry-at
-  read = p .before .before
+  abbrev there : tie.Else1
+  there = p .before .before .before .before
 
   abbrev start : tie.Start
-  start = read .before .before .before
+  start = there .before .before .before .before
 
   abbrev s : Spot
   s = start .args .s
 
-  abbrev x : Reaction
-  x = p .react .result
-
   abbrev entry : Entry
-  entry = read .entry-at .result
+  entry = p .before .before .before .entry-at .result
 
-  fits : ReceiveFits s
+  fits : Fits s
   fits = receive-fits s (start .pre .0)
 
-attempt-requires : tie.Need-attempt-requires
-attempt-requires c κs = let p = c .before in (fits p .arrays, start p .pre .1)
+  decided : Decided s entry (p .react .result)
+  decided =
+      record {
+        there = omega (arith, there .if1 .left);
+        entry = p .before .before .before .entry-at .ensures;
+        reaction = rw (p .before .receiver .ensures) at (p .react .ensures);
+      }
 
--- once it was tried
-abbrev tried : tie.After-struct-known → tie.After-attempt
-tried t = t .before .before .before
+channel-empty : tie.Need-returns
+channel-empty c = turns-refused _ _ _ _ _ (λ g v. empty _ g v (c .before .if1 .taken)) (c .refused .ensures)
 
-abbrev decided : tie.After-struct-known → tie.After-react
-decided t = tried t .before .before
+marker-on-closed : tie.Need-returns-2
+marker-on-closed c =
+    let then = c .before in
+    turns-refused _ _ _ _ _ (λ g v. checks (decided (then .before .before .before)) g v ∙ rw (then .if2 .taken))
+    (c .refused2 .ensures)
 
-returns : tie.Need-returns
-returns c =
-    let k = c .before .before in
-    let p = decided k in
-    receive-stopped (s p) (entry p) (read p .entry-at .ensures) (x p) (p .react .ensures) _ _ _ _
-    (tried k .attempt .ensures) (not-true _ (c .before .if1 .taken)) (c .stopped .ensures)
+log-full : tie.Need-returns-3
+log-full c =
+    let f = c .before .before in
+    turns-refused _ _ _ _ _
+    (λ g v. checks (decided (reacted (f .before))) g v
+    ∙ rw (f .before .if2 .left, sym (f .full .ensures) ∙ c .before .if3 .taken))
+    (c .refused3 .ensures)
 
-pop-requires : tie.Need-pop-requires
-pop-requires c κs =
-    let p = decided (c .before) in (
-      has-entry (s p) (x p) (tried (c .before) .attempt .ensures .passed (not-false _ (c .if1 .left))),
-      fits p .entries,
-    )
+-- nothing turns it down
+module _ (e : tie.Else3) where
+  abbrev p : tie.After-react
+  p = reacted (e .before .before)
 
--- once the word is known, and what follows it
-abbrev worded : tie.After-struct-known9 → tie.After-word-after
-worded c = c .before .before .before .before .before .before .before .before
+  room : fullFor (p .react .result) (s p) ≡ false
+  room = sym (e .before .full .ensures) ∙ e .if3 .left
 
-abbrev received : tie.After-word-after → tie.After-struct-known
-received w = w .before .before .before
+  may : Passes (s p) (Receive (s p .channel))
+  may g v = checks (decided p) g v ∙ rw (e .before .before .if2 .left, room)
 
-add-s : tie.Need-add-s
-add-s c = let p = decided (received (worded c)) in omega (arith, a-bit (x p .«channel_log»), fits p .inChannel)
+log-requires : tie.Need-log-requires
+log-requires c κs = let e = c .before .before in (fits (p e), room e, start (p e) .pre .1)
 
-add-s-2 : tie.Need-add-s-2
-add-s-2 c =
-    let p = decided (received (worded (c .before .before))) in omega (arith, a-bit (x p .«message_log»), fits p .inMessages)
+power-lost : tie.Need-returns-4
+power-lost c =
+    let l = c .before .before .before .before in
+    let e = roomy l in
+    turns-lost _ _ _ _ (may e) _ _ (l .log .ensures .store)
+    (λ g v. writes (decided (p e)) g v (l .before .before .receipt .ensures))
+    (rw (l .log .ensures .needed) at (c .before .if4 .taken)) (c .stopped .ensures)
 
-same-length-2 : tie.Need-same-length-2
-same-length-2 c =
-    let t = received (worded (c .before .before .before)) in
-    search (needs, t .before .slice-known2, t .before .before .store, tried t .attempt)
+after-requires : tie.Need-after-requires
+after-requires c κs = let q = p (roomy (logged (c .before))) in (fits q, decided q .there)
 
-returns-2 : tie.Need-returns-2
-returns-2 c =
-    let w = worded (c .before .before .before) in
-    let d = w .before .before in
-    let p = decided (d .before) in
-    receive-went (s p) (entry p) (read p .entry-at .ensures) (x p) (p .react .ensures) _ _ _ _
-    (tried (d .before) .attempt .ensures) (not-false _ (d .if1 .left)) (c .went .ensures)
-    (record {
-      round = refl;
-      held = w .before .pop .ensures;
-      word = w .word-after .ensures;
-      tag = refl;
-      logical = refl;
-      closed = refl;
-      sent = refl;
-      inChannel = refl;
-      inMessages = refl;
-    })
+received : tie.Need-returns-5
+received c =
+    let lasted = c .before .before .before in
+    let l = logged lasted in
+    let e = roomy l in
+    receive-went (decided (p e)) (may e) (l .before .before .receipt .ensures) (l .log .ensures) (lasted .if4 .left)
+    (c .before .before .outcome .ensures) (c .before .after .ensures) (c .went .ensures)
 
 pub receive-spec : {M : Type 1} → statement M
 receive-spec =
     tie.close
     (tie.spec
-    (λ c κs. search needs)
-    (λ c κs. search needs)
-    attempt-requires
-    (λ c κs. search needs)
-    (λ c. search needs)
-    returns
-    pop-requires
-    (λ c κs. search needs)
-    (λ c. search needs)
-    add-s
-    (λ c. search needs)
-    add-s-2
-    (λ c κs. search needs)
-    same-length-2
-    returns-2)
+    (λ c κs. search needs) channel-empty
+    (λ c κs. search needs) (λ c κs. search needs) (λ c κs. search needs)
+    (λ c κs. search needs) marker-on-closed
+    (λ c κs. search needs) (λ c κs. search needs) log-full
+    (λ c κs. search needs) log-requires
+    (λ c κs. search needs) (λ c. search needs) power-lost
+    (λ c κs. search needs) after-requires
+    (λ c κs. search needs) (λ c. search needs) received)
