@@ -1,7 +1,7 @@
 -- `engine::abort::abort` meets its contract: refused where no round is under way, else all is set back but the counts.
 use borrow.Author.Needs.{needs}
 use mathlib.Core.Path.{_≡_, refl, sym, ap, _∙_}
-use mathlib.Core.Bool.{true, false}
+use mathlib.Core.Bool.{cond}
 use mathlib.Core.Option.{none, some}
 use Rattle.model.specs.declared.Step.the-variants.{Abort}
 use Rattle.model.specs.Outcome as says
@@ -19,24 +19,21 @@ use Rattle.engine.proofs.abort.abort.Tie as tie
 
 -- what the model has for a state seen so
 module _ (s : Spot) (g : GlobalState) (v : Sees g Abort s) where
-  not-now : isIdle (s .round .phase) ≡ true → firstRefusal (ownChecks g Abort) ≡ some 12
+  checks : firstRefusal (ownChecks g Abort) ≡ cond (isIdle (s .round .phase)) (some 12) none
   unfolding ownChecks priorChecks roomChecks logChecks firstRefusal
-  not-now e = rw (v .round, e)
-
-  passed : isIdle (s .round .phase) ≡ false → firstRefusal (ownChecks g Abort) ≡ none
-  unfolding ownChecks priorChecks roomChecks logChecks firstRefusal
-  passed e = rw (v .round, e)
+  checks = rw (v .round)
 
 returns : tie.Need-returns
 returns c =
     let t = c .before in
-    quiet-refused _ _ _ (λ g v. not-now _ g v (sym (t .before .is-idle .ensures) ∙ t .if1 .taken)) (c .refused .ensures)
+    quiet-refused _ _ _ (λ g v. checks _ g v ∙ rw (← (t .before .is-idle .ensures), t .if1 .taken))
+    (c .refused .ensures)
 
 returns-2 : tie.Need-returns-2
 unfolding effect putBack endRound withRound withProgress withTag withChannel
 returns-2 c =
     quiet-went _ _ refl refl refl refl
-    (λ g v. passed _ g v (sym (c .before .is-idle .ensures) ∙ c .if1 .left))
+    (λ g v. checks _ g v ∙ rw (← (c .before .is-idle .ensures), c .if1 .left))
     (λ g v. rw (v .round)
     (ap (quietly says.done) (same-state refl refl (sym (same-word v)) refl refl refl (sym (same-counts v)))))
 

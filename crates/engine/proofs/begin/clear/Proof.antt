@@ -59,10 +59,4 @@ returns c =
 pub clear-spec : {M : Type 1} → statement M
 clear-spec =
     tie.close
-    (tie.spec
-    (λ c κs. search needs)
-    zeros-requires
-    (λ c κs. search needs)
-    zeros-requires-2
-    (λ c. search needs)
-    returns)
+    (tie.spec (λ c κs. search needs) zeros-requires (λ c κs. search needs) zeros-requires-2 (λ c. search needs) returns)

@@ -1,17 +1,15 @@
 -- `engine::commit::commit` meets its contract: refused where the round is not through, else the next line's number is
 -- written and the round ends.
 use borrow.Author.Needs.{needs}
-use borrow.Author.Tests.{not-true, not-false}
+use borrow.Author.Tests.{not-false}
 use native.Mathlib.Omega.{arith}
-use Prim.Native.Nat.{ℕ, _+_, _<_, _^_}
-use mathlib.Core.Path.{_≡_, refl, sym, ap, _∙_}
-use mathlib.Core.Bool.{Bool, true, false, _&&_}
-use mathlib.Core.List.{[], _∷_}
+use Prim.Native.Nat.{_+_}
+use mathlib.Core.Path.{_≡_, refl, sym, _∙_}
+use mathlib.Core.Bool.{Bool, true, false, cond, not, _&&_}
 use mathlib.Core.Option.{none, some}
 use Rattle.model.specs.declared.Phase.{Phase}
 use Rattle.model.specs.declared.Phase.the-variants.{Idle, Physical, Logical}
 use Rattle.model.specs.declared.Step.the-variants.{Commit}
-use Rattle.model.specs.Outcome as says
 use Rattle.model.specs.Check.{firstRefusal}
 use Rattle.model.specs.Layout.{lineCell}
 use Rattle.model.specs.Phase.{isIdle, isLogical}
@@ -24,7 +22,7 @@ use Rattle.engine.specs.declared.spot.Spot.{Spot}
 use Rattle.engine.specs.Spent.{oneWrite}
 use Rattle.engine.specs.Spots.{Sees, putBack}
 use Rattle.engine.proofs.Views.{same-state}
-use Rattle.engine.proofs.Turning.{turns-refused, turns-lost, turns-done, same-result, next-line}
+use Rattle.engine.proofs.Turning.{Passes, turns-refused, turns-lost, turns-done, same-result, next-line}
 use Rattle.engine.proofs.Turning.{same-word, same-tag, same-channel, same-counts}
 use Rattle.engine.proofs.commit.commit.Statement.{statement}
 use Rattle.engine.proofs.commit.commit.Tie as tie
@@ -48,13 +46,9 @@ module _ (s : Spot) (g : GlobalState) (v : Sees g Commit s) where
   unfolding mayCommit
   decided = and-assoc (isLogical (g .round .phase)) _ _ ∙ rw (v .round, v .through)
 
-  not-now : may s ≡ false → firstRefusal (ownChecks g Commit) ≡ some 12
+  checks : firstRefusal (ownChecks g Commit) ≡ cond (not (may s)) (some 12) none
   unfolding ownChecks priorChecks roomChecks logChecks firstRefusal
-  not-now e = rw (decided, e)
-
-  passed : may s ≡ true → firstRefusal (ownChecks g Commit) ≡ none
-  unfolding ownChecks priorChecks roomChecks logChecks firstRefusal
-  passed e = rw (decided, e)
+  checks = rw decided
 
   writes : effect g Commit .writes ≡ oneWrite lineCell (s .round .line + 1)
   unfolding effect commitWrites nextLine
@@ -64,34 +58,43 @@ returns : tie.Need-returns
 returns c =
     let t = c .before in
     turns-refused _ _ _ _ _
-    (λ g v. not-now _ g v (rw (← (t .before .before .is-logical .ensures)) (not-true _ (t .if1 .taken))))
-    (c .refused .ensures)
+    (λ g v. checks _ g v ∙ rw (← (t .before .before .is-logical .ensures), t .if1 .taken)) (c .refused .ensures)
 
-through : (d : tie.Else1) → may (d .before .before .before .before .before .args .s) ≡ true
-through d = rw (← (d .before .before .is-logical .ensures)) (not-false _ (d .if1 .left))
+-- the round is through
+module _ (d : tie.Else1) where
+  abbrev start : tie.Start
+  start = d .before .before .before .before .before
+
+  abbrev s : Spot
+  s = start .args .s
+
+  through : may s ≡ true
+  through = rw (← (d .before .before .is-logical .ensures)) (not-false _ (d .if1 .left))
+
+  passes : Passes s Commit
+  passes g v = checks s g v ∙ rw through
 
 add-line : tie.Need-add-line
 add-line c =
     let d = c .before in
-    let s = d .before .before .before .before .before .args .s in
-    omega (
-      arith,
-      next-line (d .before .before .before .before .before .pre .0)
-          (busy (s .round .phase) (and-left _ (s .through) (through d))) (omega arith),
-    )
+    let logical = busy (s d .round .phase) (and-left _ (s d .through) (through d)) in
+    omega (arith, next-line (start d .pre .0) logical (omega arith))
+
+-- the number is written
+abbrev unwritten : tie.After-put → tie.Else1
+unwritten p = p .before .before .before
 
 returns-2 : tie.Need-returns-2
 returns-2 c =
     let p = c .before .before .before .before in
-    turns-lost _ _ _ _ (λ g v. passed _ g v (through (p .before .before .before))) _ _ (p .put .ensures .store)
-    (λ g v. writes _ g v) (c .before .if2 .taken) (c .stopped .ensures)
+    turns-lost _ _ _ _ (passes (unwritten p)) _ _ (p .put .ensures .store) (writes _) (c .before .if2 .taken)
+    (c .stopped .ensures)
 
 returns-3 : tie.Need-returns-3
 unfolding effect commitWrites nextLine endRound withRound withProgress putBack
 returns-3 c =
     let p = c .before .before .before in
-    turns-done _ _ _ _ (λ g v. passed _ g v (through (p .before .before .before))) _ _ (p .put .ensures .store)
-    _ refl refl refl (c .if2 .left)
+    turns-done _ _ _ _ (passes (unwritten p)) _ _ (p .put .ensures .store) _ refl refl refl (c .if2 .left)
     (λ g v. rw (v .round)
     (same-result refl
     (same-state refl refl (sym (same-word v)) (sym (same-tag v)) (sym (same-channel v)) refl (sym (same-counts v)))
@@ -100,14 +103,5 @@ returns-3 c =
 pub commit-spec : {M : Type 1} → statement M
 commit-spec =
     tie.close
-    (tie.spec
-    (λ c κs. search needs)
-    (λ c κs. search needs)
-    returns
-    add-line
-    (λ c κs. search needs)
-    (λ c κs. search needs)
-    (λ c. search needs)
-    returns-2
-    (λ c. search needs)
-    returns-3)
+    (tie.spec (λ c κs. search needs) (λ c κs. search needs) returns add-line (λ c κs. search needs)
+    (λ c κs. search needs) (λ c. search needs) returns-2 (λ c. search needs) returns-3)

@@ -1,9 +1,7 @@
 -- `engine::logical_checkpoint::logical_checkpoint` meets its contract, in each of its cases.
 use borrow.Author.Needs.{needs}
-use borrow.Author.Tests.{not-true, not-false}
-use Prim.Native.Nat.{ℕ}
 use mathlib.Core.Path.{_≡_, refl, sym, ap, _∙_}
-use mathlib.Core.Bool.{Bool, true, false, not, _&&_, _||_}
+use mathlib.Core.Bool.{Bool, cond, not, _&&_, _||_}
 use mathlib.Core.Option.{none, some}
 use lib.Dec.{eqb}
 use Rattle.model.specs.declared.Step.the-variants.{LogicalCheckpoint}
@@ -35,27 +33,22 @@ module _ (s : Spot) (g : GlobalState) (v : Sees g (LogicalCheckpoint (s .process
   unfolding mayCheckpointLogically
   decided = rw (v .round, v .logical, v .first)
 
-  not-now : may s ≡ false → firstRefusal (ownChecks g (LogicalCheckpoint (s .process))) ≡ some 12
+  checks : firstRefusal (ownChecks g (LogicalCheckpoint (s .process))) ≡ cond (not (may s)) (some 12) none
   unfolding ownChecks priorChecks roomChecks logChecks firstRefusal
-  not-now e = rw (here .holds, decided, e)
-
-  passed : may s ≡ true → firstRefusal (ownChecks g (LogicalCheckpoint (s .process))) ≡ none
-  unfolding ownChecks priorChecks roomChecks logChecks firstRefusal
-  passed e = rw (here .holds, decided, e)
+  checks = rw (here .holds, decided)
 
 returns : tie.Need-returns
 returns c =
     let t = c .before in
     quiet-refused _ _ _
-    (λ g v. not-now _ g v (rw (← (t .before .before .is-logical .ensures)) (not-true _ (t .if1 .taken))))
-    (c .refused .ensures)
+    (λ g v. checks _ g v ∙ rw (← (t .before .before .is-logical .ensures), t .if1 .taken)) (c .refused .ensures)
 
 returns-2 : tie.Need-returns-2
 unfolding effect putBack logicalCheckpoint withTag withProgress withLogical
 returns-2 c =
     let d = c .before .before in
     quiet-went _ _ (c .went .ensures) refl refl refl
-    (λ g v. passed _ g v (rw (← (d .before .before .is-logical .ensures)) (not-false _ (d .if1 .left))))
+    (λ g v. checks _ g v ∙ rw (← (d .before .before .is-logical .ensures), d .if1 .left))
     (λ g v. rw (v .tag)
     (ap (quietly says.done)
     (same-state refl (v .round) (sym (same-word v)) refl (sym (same-channel v))

@@ -43,13 +43,6 @@ returns-2 c =
 pub append-spec : {M : Type 1} → statement M
 append-spec =
     tie.close
-    (tie.spec
-    returns
-    (λ c. omega (arith, placed (c .before)))
-    (λ c. omega (arith, placed (c .before)))
-    (λ c. omega (arith, placed (c .before)))
-    (λ c κs. placed (c .before))
-    (λ c. search needs)
-    put-requires
-    (λ c. search needs)
-    returns-2)
+    (tie.spec returns (λ c. omega (arith, placed (c .before))) (λ c. omega (arith, placed (c .before)))
+    (λ c. omega (arith, placed (c .before))) (λ c κs. placed (c .before)) (λ c. search needs) put-requires
+    (λ c. search needs) returns-2)

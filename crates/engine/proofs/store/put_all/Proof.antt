@@ -42,16 +42,6 @@ returns c =
 pub put-all-spec : {M : Type 1} → statement M
 put-all-spec =
     tie.close
-    (tie.spec
-    Inv-loop
-    μ-loop
-    loop-holds
-    (λ c. omega arith)
-    (λ c. omega arith)
-    (λ c. omega arith)
-    (λ c κs. omega (arith, spent-length (c .before .before .before .loop .inv .1)))
-    (λ c. omega arith)
-    (λ c. omega arith)
-    loop-again
-    (λ c. spent-length (c .before .loop .inv .1))
-    returns)
+    (tie.spec Inv-loop μ-loop loop-holds (λ c. omega arith) (λ c. omega arith) (λ c. omega arith)
+    (λ c κs. omega (arith, spent-length (c .before .before .before .loop .inv .1))) (λ c. omega arith)
+    (λ c. omega arith) loop-again (λ c. spent-length (c .before .loop .inv .1)) returns)

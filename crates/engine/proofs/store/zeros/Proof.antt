@@ -43,15 +43,6 @@ returns c =
 pub zeros-spec : {M : Type 1} → statement M
 zeros-spec =
     tie.close
-    (tie.spec
-    Inv-loop
-    μ-loop
-    loop-holds
-    (λ c. omega (arith, within c))
-    (λ c. omega (arith, within c))
-    (λ c κs. omega (arith, within c, spent-length (c .before .before .loop .inv .1)))
-    (λ c. search needs)
-    (λ c. search needs)
-    loop-again
-    (λ c. spent-length (c .before .loop .inv .1))
-    returns)
+    (tie.spec Inv-loop μ-loop loop-holds (λ c. omega (arith, within c)) (λ c. omega (arith, within c))
+    (λ c κs. omega (arith, within c, spent-length (c .before .before .loop .inv .1))) (λ c. search needs)
+    (λ c. search needs) loop-again (λ c. spent-length (c .before .loop .inv .1)) returns)
