@@ -13,7 +13,6 @@ use Rattle.model.specs.declared.State.{State}
 use Rattle.model.specs.declared.Step.{Step}
 use Rattle.model.specs.declared.Answer.{Answer}
 use Rattle.model.specs.declared.Refusal.{Refusal}
-use Rattle.model.specs.declared.Refusal.the-variants.{Unsound, ShortStore, NoSuch}
 use Rattle.model.specs.Check.{firstRefusal}
 use Rattle.model.specs.Layout.{storeCells}
 use Rattle.model.specs.State.{GlobalState, view}
@@ -30,53 +29,43 @@ pub unbudgeted : (budget : ℕ) (s : GlobalState) (store : List ℕ) (r : Result
 unfolding underBudget writeAll
 unbudgeted budget s store r e = rw (e, le-ltb budget 0 (omega arith), min-zero budget, take-nil budget)
 
--- 15, 6 and 8 before everything else, and behind them its own part
+-- 15, 6 and 8 before everything else, and behind them a step's own part
+module _ (s : State) (x : Step) (cells : ℕ) where
+  pub unsound : sound (view s) ≡ false → step (view s) cells x ≡ quietly (says.refused 15) (view s)
+  unfolding step stepChecks firstRefusal resultOf
+  unsound e = rw e
+
+  module _ (h : sound (view s) ≡ true) where
+    pub short : cells < storeCells → step (view s) cells x ≡ quietly (says.refused 6) (view s)
+    unfolding step stepChecks firstRefusal resultOf
+    short l = rw (h, lt-ltb cells storeCells l)
+
+    module _ (l : storeCells ≤ cells) where
+      pub missing : firstRefusal (ownChecks (view s) x) ≡ some 8
+          → step (view s) cells x ≡ quietly (says.refused 8) (view s)
+      unfolding step stepChecks firstRefusal resultOf
+      missing n = rw (h, le-ltb cells storeCells l, n)
+
+      own-step : step (view s) cells x ≡ ownResult (view s) x
+      unfolding step stepChecks firstRefusal ownResult
+      own-step = rw (h, le-ltb cells storeCells l)
+
 module _ (s : State) (x : Step) (before : List ℕ) (budget : ℕ) where
   abbrev found : Result → Answer → List ℕ → Type 0
   found y r after = Meets s (underBudget budget (view s) before y) r after
 
-  refused : (r : Refusal) → step (view s) (length before) x ≡ quietly (says.refused (refusalNumber r)) (view s)
+  pub step-refused : (r : Refusal)
+      → step (view s) (length before) x ≡ quietly (says.refused (refusalNumber r)) (view s)
       → {a : Answer} → a ≡ refusedBy r s → Answers s x before budget a before
   unfolding answer quietly
-  refused r e is =
+  step-refused r e is =
       subst (λ (a : Answer). Answers s x before budget a before) (sym is)
       (subst (λ (y : Result). found y (refusedBy r s) before) (sym e)
       (subst (λ (a : Answered). Meets s a (refusedBy r s) before)
       (sym (unbudgeted budget (view s) before (quietly (says.refused (refusalNumber r)) (view s)) refl))
       (record { outcome = refl; made = refl; state = refl; kept = λ _. refl; store = refl })))
 
-  unsound : sound (view s) ≡ false → step (view s) (length before) x ≡ quietly (says.refused 15) (view s)
-  unfolding step stepChecks firstRefusal resultOf
-  unsound e = rw e
-
-  short : sound (view s) ≡ true → length before < storeCells
-      → step (view s) (length before) x ≡ quietly (says.refused 6) (view s)
-  unfolding step stepChecks firstRefusal resultOf
-  short e l = rw (e, lt-ltb (length before) storeCells l)
-
-  missing : sound (view s) ≡ true → storeCells ≤ length before → firstRefusal (ownChecks (view s) x) ≡ some 8
-      → step (view s) (length before) x ≡ quietly (says.refused 8) (view s)
-  unfolding step stepChecks firstRefusal resultOf
-  missing e l n = rw (e, le-ltb (length before) storeCells l, n)
-
-  own-step : sound (view s) ≡ true → storeCells ≤ length before
-      → step (view s) (length before) x ≡ ownResult (view s) x
-  unfolding step stepChecks firstRefusal ownResult
-  own-step e l = rw (e, le-ltb (length before) storeCells l)
-
-  pub step-unsound : sound (view s) ≡ false → {a : Answer} → a ≡ refusedBy Unsound s
-      → Answers s x before budget a before
-  step-unsound e is = refused Unsound (unsound e) is
-
-  pub step-short : sound (view s) ≡ true → length before < storeCells → {a : Answer} → a ≡ refusedBy ShortStore s
-      → Answers s x before budget a before
-  step-short e l is = refused ShortStore (short e l) is
-
-  pub step-missing : sound (view s) ≡ true → storeCells ≤ length before → firstRefusal (ownChecks (view s) x) ≡ some 8
-      → {a : Answer} → a ≡ refusedBy NoSuch s → Answers s x before budget a before
-  step-missing e l n is = refused NoSuch (missing e l n) is
-
   pub step-own : sound (view s) ≡ true → storeCells ≤ length before → (r : Answer) (after : List ℕ)
       → Performs s x before budget r after → Answers s x before budget r after
   unfolding answer
-  step-own e l r after m = subst (λ (y : Result). found y r after) (sym (own-step e l)) m
+  step-own h l r after m = subst (λ (y : Result). found y r after) (sym (own-step s x (length before) h l)) m

@@ -29,11 +29,12 @@ use Rattle.model.specs.Outcome as says
 use Rattle.model.proofs.laws.Functions.{upd-unchanged}
 use Rattle.model.proofs.laws.SoundLaws.{sound-facts}
 use Rattle.model.proofs.laws.TopologyLaws.{SizesFit, accepted-sizes}
-use Rattle.engine.specs.declared.spot.Place.the-variants.{At, Nowhere}
+use Rattle.engine.specs.declared.spot.Place.{Place}
 use Rattle.engine.specs.declared.spot.Spot.{Spot}
 use Rattle.engine.specs.declared.spot.Turn.{Turn}
 use Rattle.engine.specs.Answers.{ownResult}
-use Rattle.engine.specs.Spots.{sending, receiving, onProcess, Sees, Seen, putBack, afterTurn, Turns, QuietTurn, stopping}
+use Rattle.engine.specs.Spots.{at, noSuch, sending, receiving, onProcess, Sees, Seen, putBack, afterTurn}
+use Rattle.engine.specs.Spots.{Turns, QuietTurn, stopping}
 use Rattle.engine.proofs.Promises.{unbudgeted}
 
 -- a place that was found
@@ -42,18 +43,20 @@ pub record Found (t : Bool) (a b c p : ℕ) : Type 0 where
   pub channel : a ≡ c
   pub process : b ≡ p
 
-pub found : (t : Bool) (a b c p : ℕ) → cond t (At a b) Nowhere ≡ At c p → Found t a b c p
-found true a b c p e = record { holds = refl; channel = cc; process = cc }
+pub found : (t : Bool) (a b c p : ℕ) → cond t (at a b) noSuch ≡ at c p → Found t a b c p
+found true a b c p e =
+    let q : _≡_ {A = Place} (record { channel = a; process = b }) (record { channel = c; process = p }) = cc in
+    record { holds = refl; channel = ap (λ (l : Place). l .channel) q; process = ap (λ (l : Place). l .process) q }
 found false a b c p e = let z : _≡_ {A = ℕ} 0 1 = cc in absurd (omega arith)
 
 module _ (T : Topology) (n : ℕ) {c p : ℕ} where
-  pub found-sending : sending T n ≡ At c p → Found (hasChannel T n) n (sender T n) c p
+  pub found-sending : sending T n ≡ at c p → Found (hasChannel T n) n (sender T n) c p
   found-sending e = found (hasChannel T n) n (sender T n) c p e
 
-  pub found-receiving : receiving T n ≡ At c p → Found (hasChannel T n) n (receiver T n) c p
+  pub found-receiving : receiving T n ≡ at c p → Found (hasChannel T n) n (receiver T n) c p
   found-receiving e = found (hasChannel T n) n (receiver T n) c p e
 
-  pub found-process : onProcess T n ≡ At c p → Found (hasProcess T n) 0 n c p
+  pub found-process : onProcess T n ≡ at c p → Found (hasProcess T n) 0 n c p
   found-process e = found (hasProcess T n) 0 n c p e
 
 -- what is written back as it was

@@ -1,66 +1,105 @@
 -- A step on one spot: what it is about, when a state is seen so there, and what a state becomes by the turn.
-use Prim.Native.Nat.{ℕ}
+use Prim.Native.Nat.{ℕ, _<_, _≤_}
 use mathlib.Core.Path.{_≡_}
 use mathlib.Core.Bool.{Bool, true, false, cond, _&&_}
 use mathlib.Core.List.{List, []}
+use lib.ListN.{length, getD, set, replicate}
+use Rattle.model.specs.declared.Answer.{Answer}
+use Rattle.model.specs.declared.Channel.{Channel}
+use Rattle.model.specs.declared.Counts.{Counts}
+use Rattle.model.specs.declared.Flags.{Flags}
+use Rattle.model.specs.declared.Refusal.the-variants.{NoSuch}
+use Rattle.model.specs.declared.Round.{Round}
+use Rattle.model.specs.declared.State.{State}
 use Rattle.model.specs.declared.Topology.{Topology}
 use Rattle.model.specs.declared.Step.{Step}
 use Rattle.model.specs.declared.Step.the-variants.{Send, Receive, Begin, PhysicalCheckpoint}
 use Rattle.model.specs.declared.Step.the-variants.{LogicalCheckpoint, SendMarker, Commit, Abort}
 use Rattle.model.specs.declared.Outcome.{Outcome}
 use Rattle.model.specs.Notation.{upd, allBelow}
-use Rattle.model.specs.Topology.{sender, receiver, hasProcess, hasChannel}
-use Rattle.model.specs.Channel.{entries}
-use Rattle.model.specs.State.{GlobalState, Progress, LogCounts, noProgress, noCounts}
+use Rattle.model.specs.Topology.{processLimit, channelLimit, sender, receiver, hasProcess, hasChannel}
+use Rattle.model.specs.Channel.{channelRoom, entries}
+use Rattle.model.specs.Layout.{storeCells}
+use Rattle.model.specs.State.{GlobalState, Progress, LogCounts, noProgress, noCounts, view}
 use Rattle.model.specs.Sound.{sound}
 use Rattle.model.specs.Change.{plainChannels, setEntries}
-use Rattle.model.specs.Outcome.{saidBy}
+use Rattle.model.specs.Outcome.{refusalNumber, saidBy}
+use Rattle.model.specs.Outcome as says
 use Rattle.model.specs.Heard.{accepted}
 use Rattle.model.specs.Write.{Answered, underBudget}
-use Rattle.model.specs.Step.{quietly}
+use Rattle.model.specs.Step.{step, quietly}
 use Rattle.engine.specs.declared.spot.Place.{Place}
-use Rattle.engine.specs.declared.spot.Place.the-variants.{At, Nowhere}
+use Rattle.engine.specs.declared.spot.Admission.{Admission}
+use Rattle.engine.specs.declared.spot.Admission.the-variants.{At}
+use Rattle.engine.specs.declared.spot.Admission.the-variants as admission
 use Rattle.engine.specs.declared.spot.Spot.{Spot}
 use Rattle.engine.specs.declared.spot.Reset.{Reset}
 use Rattle.engine.specs.declared.spot.Turn.{Turn}
 use Rattle.engine.specs.Answers.{ownResult, allSet}
 
--- a channel with its sender or its receiver, and a process; nowhere, where there is no such one (refusal 8)
-abbrev pub sending : Topology → ℕ → Place
-sending T c = cond (hasChannel T c) (At c (sender T c)) Nowhere
+abbrev pub at : ℕ → ℕ → Admission
+at c p = At (record { channel = c; process = p })
 
-abbrev pub receiving : Topology → ℕ → Place
-receiving T c = cond (hasChannel T c) (At c (receiver T c)) Nowhere
+abbrev pub noSuch : Admission
+noSuch = admission.Refused NoSuch
 
-abbrev pub onProcess : Topology → ℕ → Place
-onProcess T p = cond (hasProcess T p) (At 0 p) Nowhere
+-- a channel with its sender or its receiver, and a process; or there is no such one (refusal 8)
+abbrev pub sending : Topology → ℕ → Admission
+sending T c = cond (hasChannel T c) (at c (sender T c)) noSuch
 
--- what a step is about; 0 where it is about no channel or no process
-abbrev pub placeOf : Topology → Step → Place
+abbrev pub receiving : Topology → ℕ → Admission
+receiving T c = cond (hasChannel T c) (at c (receiver T c)) noSuch
+
+abbrev pub onProcess : Topology → ℕ → Admission
+onProcess T p = cond (hasProcess T p) (at 0 p) noSuch
+
+-- 0 where a step is about no channel or no process
+abbrev pub aboutNone : Admission
+aboutNone = at 0 0
+
+-- what a step is about
+abbrev pub placeOf : Topology → Step → Admission
 placeOf T (Send c b) = sending T c
 placeOf T (Receive c) = receiving T c
-placeOf T Begin = At 0 0
+placeOf T Begin = aboutNone
 placeOf T (PhysicalCheckpoint p) = onProcess T p
 placeOf T (LogicalCheckpoint p) = onProcess T p
 placeOf T (SendMarker c) = sending T c
-placeOf T Commit = At 0 0
-placeOf T Abort = At 0 0
+placeOf T Commit = aboutNone
+placeOf T Abort = aboutNone
+
+-- behind refusals 15, 6 and 8
+pub record Admitted (s : State) (x : Step) (cells : ℕ) (l : Place) : Type 0 where
+  pub sound : sound (view s) ≡ true
+  pub store : storeCells ≤ cells
+  pub place : placeOf (s .topology) x ≡ At l
+
+-- 15, 6 and 8 before everything else; cells is the number of the store's cells
+abbrev pub Admits : State → Step → ℕ → Admission → Type 0
+Admits s x cells (At l) = Admitted s x cells l
+Admits s x cells (admission.Refused r) = step (view s) cells x ≡ quietly (says.refused (refusalNumber r)) (view s)
+
+abbrev pub isCommit : Step → Bool
+isCommit (Send c b) = false
+isCommit (Receive c) = false
+isCommit Begin = false
+isCommit (PhysicalCheckpoint p) = false
+isCommit (LogicalCheckpoint p) = false
+isCommit (SendMarker c) = false
+isCommit Commit = true
+isCommit Abort = false
 
 -- "every board marked, every wire closed", asked for a commit alone
 abbrev pub throughFor : GlobalState → Step → Bool
-throughFor g (Send c b) = false
-throughFor g (Receive c) = false
-throughFor g Begin = false
-throughFor g (PhysicalCheckpoint p) = false
-throughFor g (LogicalCheckpoint p) = false
-throughFor g (SendMarker c) = false
-throughFor g Commit =
-    allBelow (g .topology .processes) (g .progress .logical) && allBelow (g .topology .channels) (g .progress .closed)
-throughFor g Abort = false
+throughFor g x =
+    cond (isCommit x)
+    (allBelow (g .topology .processes) (g .progress .logical)
+    && allBelow (g .topology .channels) (g .progress .closed))
+    false
 
 -- the state g, for the step x, looks like this at the spot
 pub record Sees (g : GlobalState) (x : Step) (s : Spot) : Type 0 where
-  pub place : placeOf (g .topology) x ≡ At (s .channel) (s .process)
+  pub place : placeOf (g .topology) x ≡ at (s .channel) (s .process)
   pub processes : g .topology .processes ≡ s .processes
   pub channels : g .topology .channels ≡ s .channels
   pub round : g .round ≡ s .round
@@ -128,16 +167,49 @@ pub record QuietTurn (s : Spot) (x : Step) (r : Turn) : Type 0 where
 abbrev pub sized : ℕ → ℕ → Topology
 sized processes channels = record { processes = processes; channels = channels; from = []; to = [] }
 
--- "every board marked, every wire closed", by the code's flags, asked for a commit alone
+-- by the code's flags: "every board marked, every wire closed", asked for a commit alone
 abbrev pub throughIn : List Bool → List Bool → ℕ → ℕ → Step → Bool
-throughIn f k n m (Send c b) = false
-throughIn f k n m (Receive c) = false
-throughIn f k n m Begin = false
-throughIn f k n m (PhysicalCheckpoint p) = false
-throughIn f k n m (LogicalCheckpoint p) = false
-throughIn f k n m (SendMarker c) = false
-throughIn f k n m Commit = allSet f n && allSet k m
-throughIn f k n m Abort = false
+throughIn logical closed n m x = cond (isCommit x) (allSet logical n && allSet closed m) false
+
+-- a place and a topology's sizes that are within a state's arrays
+pub record Within (T : Topology) (at : Place) : Type 0 where
+  pub processes : T .processes ≤ processLimit
+  pub channels : T .channels ≤ channelLimit
+  pub channel : at .channel < channelLimit
+  pub process : at .process < processLimit
+
+-- the spot at a place, by the parts of a state
+abbrev pub spotOf : Step → Place → Topology → Round → Channel → Flags → Counts → ℕ → Bool → Spot
+spotOf x at T round held flags counts word tag =
+    record {
+      channel = at .channel;
+      process = at .process;
+      processes = T .processes;
+      channels = T .channels;
+      round = round;
+      held = held;
+      closed = getD (flags .closed) (at .channel) false;
+      sent = getD (flags .sent) (at .channel) false;
+      «in_channel» = getD (counts .channels) (at .channel) 0;
+      word = word;
+      tag = tag;
+      logical = getD (flags .logical) (at .process) false;
+      «in_messages» = getD (counts .messages) (at .process) 0;
+      first = getD (flags .logical) 0 false;
+      through = throughIn (flags .logical) (flags .closed) (T .processes) (T .channels) x;
+    }
+
+-- an array of n places with one of them written, or all set back to z
+abbrev pub rewritten : {A : Type 0} → ℕ → A → Bool → List A → ℕ → A → List A
+rewritten n z back l i x = cond back (replicate n z) (set l i x)
+
+-- the planned channels are within the arrays, and their entries within their room
+pub record ChannelsFit (s : State) : Type 0 where
+  pub number : s .topology .channels ≤ channelLimit
+  pub entries : (c : ℕ) → c < s .topology .channels → length (view s .channel c) ≤ channelRoom
+
+abbrev pub answerOf : Turn → State → Answer
+answerOf r s = record { outcome = r .outcome; made = r .made; state = s }
 
 abbrev pub nothing : Reset
 nothing = record { counts = false; flags = false; marks = false }

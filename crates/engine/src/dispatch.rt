@@ -10,53 +10,38 @@ use crate::refusal;
 use crate::send;
 use crate::send_marker;
 use crate::spot;
-use crate::spot::Place;
+use crate::spot::Admission;
 use crate::spot::Spot;
 use crate::spot::Turn;
+use crate::write;
 use model::Answer;
-use model::PROCESSES;
 use model::Refusal;
 use model::State;
 use model::Step;
 use rules::channel;
-use rules::fresh;
 use rules::layout;
 use rules::sound;
 ghost use mathlib.Core.Path.{_≡_};
-ghost use mathlib.Core.Bool.{cond};
 ghost use Prim.Native.Nat.{_≤_};
 ghost use lib.ListN.{length};
-ghost use Rattle.model.specs.Topology.{processLimit, channelLimit};
 ghost use Rattle.model.specs.Layout.{storeCells};
-ghost use Rattle.model.specs.State.{viewProgress, viewCounts, noProgress, noCounts};
+ghost use Rattle.model.specs.State.{view};
+ghost use Rattle.model.specs.Change.{withChannel, plainChannels};
 ghost use Rattle.engine.specs.Answers.{Answers};
-ghost use Rattle.engine.specs.Spots.{Seen, Turns, throughIn};
+ghost use Rattle.engine.specs.Spots.{Admits, Seen, Turns, ChannelsFit, answerOf};
 
-// Whether the logical phase is through, which a commit alone asks: every process has its logical checkpoint, and every
-// channel is closed.
-fn through<'a>(
-    step: Step,
-    logical: &'a [bool],
-    closed: &'a [bool],
-    processes: u8,
-    channels: u8,
-) -> bool
-    requires { ⌜ (processes ≤ length (now logical)) × (channels ≤ length (now closed)) ⌝ }
-    ensures { λ r. ⌜ r ≡ throughIn (now (logical .entry)) (now (closed .entry)) processes channels step ⌝ }
+// Refusals 15, 6 and 8, in this order; and the place of a step that is none of them.
+fn admit(state: State, step: Step, cells: usize) -> Admission
+    ensures { λ r. ⌜ Admits state step cells r ⌝ }
 {
-    match step {
-        Step::Send {
-            channel: _,
-            body: _,
-        } => false,
-        Step::Receive { channel: _ } => false,
-        Step::Begin => false,
-        Step::PhysicalCheckpoint { process: _ } => false,
-        Step::LogicalCheckpoint { process: _ } => false,
-        Step::SendMarker { channel: _ } => false,
-        Step::Commit => { commit::all_set(logical, processes) & commit::all_set(closed, channels) }
-        Step::Abort => false,
+    if !sound::sound(state) {
+        return Admission::Refused(Refusal::Unsound);
     }
+    if cells < layout::STORE_CELLS {
+        return Admission::Refused(Refusal::ShortStore);
+    }
+    let t = state.topology;
+    spot::find(t, step)
 }
 
 // A step's own part, on its spot.
@@ -78,96 +63,72 @@ fn turn(step: Step, s: Spot, store: &mut [u32], budget: u32) -> Turn
     }
 }
 
-// A step of any kind, of any state and any store, with the number of writes that the power lasts for.
-pub fn step(mut state: State, step: Step, store: &mut [u32], budget: u32) -> Answer
-    ensures { λ r. ⌜ Answers state step (now (store .entry)) budget r (now (store .exit)) ⌝ }
+// The planned channels with their messages alone, in order and with tag 0.
+fn plain_channels(mut state: State) -> State
+    requires { ⌜ ChannelsFit state ⌝ }
+    ensures { λ r. ⌜ view r ≡ withChannel (plainChannels (view state)) (view state) ⌝ }
 {
-    if !sound::sound(state) {
-        return refusal::refused(state, Refusal::Unsound);
-    }
-    if store.len() < layout::STORE_CELLS {
-        return refusal::refused(state, Refusal::ShortStore);
-    }
     let t = state.topology;
-    let Place::At { channel, process } = spot::find(t, step) else {
-        return refusal::refused(state, Refusal::NoSuch);
-    };
-    let c = channel as usize;
-    let p = process as usize;
-    let places = state.places[c];
-    let held = channel::held(places, state.lengths[c]);
-    let mut flags = state.flags;
-    let mut counts = state.counts;
-    let round = state.round;
-    let through = through(step, &flags.logical, &flags.closed, t.processes, t.channels);
-    let s = Spot {
-        channel,
-        process,
-        processes: t.processes,
-        channels: t.channels,
-        round,
-        held,
-        closed: flags.closed[c],
-        sent: flags.sent[c],
-        in_channel: counts.channels[c],
-        word: state.words[p],
-        tag: state.tags[p],
-        logical: flags.logical[p],
-        in_messages: counts.messages[p],
-        first: flags.logical[0],
-        through,
-    };
-    let came = turn(step, s, store, budget);
+    let mut i: u8 = 0;
+    while i < t.channels {
+        let at = i as usize;
+        let plain = entries::plain(channel::held(state.places[at], state.lengths[at]));
+        state.places[at] = channel::places(plain);
+        state.lengths[at] = plain.count;
+        i += 1;
+    }
+    state
+}
+
+// The answer, with the state as the turn left it.
+fn answered(came: Turn, state: State) -> Answer
+    ensures { λ r. ⌜ r ≡ answerOf came state ⌝ }
+{
     let outcome = came.outcome;
-    if !came.went {
-        return Answer {
-            outcome,
-            made: came.made,
-            state,
-        };
-    }
-    let reset = came.reset;
-    let after = came.spot;
-    let next = after.round;
-    state.round = next;
-    state.words[p] = after.word;
-    flags.closed[c] = after.closed;
-    flags.sent[c] = after.sent;
-    flags.logical[p] = after.logical;
-    counts.channels[c] = after.in_channel;
-    counts.messages[p] = after.in_messages;
-    if reset.flags {
-        flags = fresh::flags();
-    }
-    if reset.counts {
-        counts = fresh::counts();
-    }
-    state.flags = flags;
-    state.counts = counts;
-    if reset.marks {
-        let mut i: u8 = 0;
-        while i < t.channels {
-            let at = i as usize;
-            let marked = state.places[at];
-            let plain = entries::plain(channel::held(marked, state.lengths[at]));
-            state.places[at] = channel::places(plain);
-            state.lengths[at] = plain.count;
-            i += 1;
-        }
-        state.tags = [false; PROCESSES];
-        return Answer {
-            outcome,
-            made: came.made,
-            state,
-        };
-    }
-    state.tags[p] = after.tag;
-    let put = after.held;
-    state.places[c] = channel::places(put);
-    state.lengths[c] = put.count;
     Answer {
         outcome,
         made: came.made,
         state,
     }
+}
+
+// A step of any kind, of any state and any store, with the number of writes that the power lasts for.
+pub fn step(mut state: State, step: Step, store: &mut [u32], budget: u32) -> Answer
+    ensures { λ r. ⌜ Answers state step (now (store .entry)) budget r (now (store .exit)) ⌝ }
+{
+    let at = match admit(state, step, store.len()) {
+        Admission::At(at) => at,
+        Admission::Refused(refusal) => return refusal::refused(state, refusal),
+    };
+    let c = at.channel as usize;
+    let p = at.process as usize;
+    let t = state.topology;
+    let flags = state.flags;
+    let counts = state.counts;
+    let held = channel::held(state.places[c], state.lengths[c]);
+    let word = state.words[p];
+    let tag = state.tags[p];
+    let s = spot::read(step, at, t, state.round, held, flags, counts, word, tag);
+    let came = turn(step, s, store, budget);
+    if !came.went {
+        return answered(came, state);
+    }
+    let new = came.spot;
+    let reset = came.reset;
+    let next = new.round;
+    state.round = next;
+    state.words[p] = new.word;
+    write::process_flag(&mut state.tags, reset.marks, p, new.tag);
+    write::process_flag(&mut state.flags.logical, reset.flags, p, new.logical);
+    write::channel_flag(&mut state.flags.closed, reset.flags, c, new.closed);
+    write::channel_flag(&mut state.flags.sent, reset.flags, c, new.sent);
+    write::process_count(&mut state.counts.messages, reset.counts, p, new.in_messages);
+    write::channel_count(&mut state.counts.channels, reset.counts, c, new.in_channel);
+    if reset.marks {
+        state = plain_channels(state);
+    } else {
+        state.places[c] = channel::places(new.held);
+        state.lengths[c] = new.held.count;
+    }
+    answered(came, state)
 }

@@ -1,282 +1,279 @@
--- `engine::step` meets its contract: refusals 15, 6 and 8 first, and then what its turn promises of every state that
--- looks so at the spot, of the one at hand.
-use Prim.Native.Nat.{ℕ, _-_, _<_, _≤_}
-use mathlib.Core.Path.{_≡_, refl, sym, ap, _∙_}
-use mathlib.Core.Bool.{Bool, true, false, cond}
+-- `engine::step` meets its contract: refused by `admit`, or what its turn promises of every state that looks so at the
+-- spot, of the one at hand.
+use Prim.Native.Nat.{ℕ, _<_, _≤_}
+use mathlib.Core.Path.{_≡_, refl, sym, ap, subst, _∙_}
+use mathlib.Core.Bool.{true, false}
 use mathlib.Core.Logic.{⊎-elim}
 use mathlib.Core.List.{List}
-use lib.ListN.{length, length-set}
+use lib.ListN.{length}
 use denote.Ref.{now}
 use native.Mathlib.Omega.{arith}
 use borrow.Author.Needs.{needs}
 use borrow.Author.Tests.{not-true, not-false}
-use Rattle.model.specs.declared.Entry.{Entry}
 use Rattle.model.specs.declared.State.{State}
 use Rattle.model.specs.declared.Step.{Step}
-use Rattle.model.specs.Topology.{processLimit, channelLimit}
-use Rattle.model.specs.Channel.{bodies, messages}
-use Rattle.model.specs.State.{noProgress, noCounts, viewProgress, viewCounts, view}
-use Rattle.model.specs.Sound.{sound}
+use Rattle.model.specs.State.{view}
 use Rattle.model.proofs.laws.SoundLaws.{sound-facts, entries-fit}
-use Rattle.engine.specs.declared.spot.Place.the-variants.{At}
-use Rattle.engine.specs.Spots.{placeOf, Sees}
-use Rattle.engine.proofs.Bounds.{count-fits, sizes-fit}
+use Rattle.engine.specs.declared.spot.Place.{Place}
+use Rattle.engine.specs.declared.spot.Admission.{Admission}
+use Rattle.engine.specs.declared.spot.Spot.{Spot}
+use Rattle.engine.specs.declared.spot.Turn.{Turn}
+use Rattle.engine.specs.Spots.{Admits, Admitted, Within, Sees, putBack}
 use Rattle.engine.proofs.Lengths.{Lengths, lengths}
-use Rattle.engine.proofs.Views.{channel-read, channel-set}
-use Rattle.engine.proofs.Aborting.{plainTo, plain-to-none, next-channel, plain-to-more}
-use Rattle.engine.proofs.Promises.{step-unsound, step-short}
-use Rattle.engine.proofs.WriteBack.{Within, within, spotAt, flagsWith, countsWith, sees, put-plain, put-marks}
-use Rattle.engine.proofs.WriteBack.{step-nowhere, step-stopped, step-went}
+use Rattle.engine.proofs.Placing.{within}
+use Rattle.engine.proofs.Promises.{step-refused}
+use Rattle.engine.proofs.WriteBack.{spotAt, sees, Rewritten, put-plain, put-marks, step-stopped, step-went}
 use Rattle.engine.proofs.dispatch.step.Statement.{statement}
 use Rattle.engine.proofs.dispatch.step.Tie as tie
 
-abbrev Inv-loop : tie.InvT-loop
-Inv-loop store budget state₀ t channel process c p through came outcome i₀ state i =
-    (i ≤ t .channels)
-    × (length (state .places) ≡ channelLimit)
-    × (length (state .lengths) ≡ channelLimit)
-    × (view state ≡ plainTo i (view state₀))
+-- refused with 15, 6 or 8
+refused : tie.Need-returns
+refused c =
+    let told = c .before .before in
+    let asked = told .before .before in
+    let start = asked .before .before in
+    step-refused (start .args .t1) _ _ _ _
+    (subst (Admits (start .args .t1) (start .args .step) _) (told .refusal .given .1) (asked .admit .ensures))
+    (c .refused .ensures)
 
-abbrev μ-loop : tie.MeasureT-loop
-μ-loop store budget state₀ t channel process c p through came outcome i₀ state i = t .channels - i
+-- admitted, at a place
+module _ (k : tie.After-known-told) where
+  abbrev asked : tie.After-admit
+  asked = k .before .before .before
 
--- behind refusals 15 and 6
-module _ (d : tie.Else2 Inv-loop μ-loop) where
-  abbrev start : tie.Start Inv-loop μ-loop
-  start = d .before .before .before .before
+  abbrev start : tie.Start
+  start = asked .before .before
 
   abbrev s : State
   s = start .args .t1
 
-  sounds : sound (view s) ≡ true
-  sounds = sym (d .before .before .sound .ensures) ∙ not-false _ (d .before .if1 .left)
+  abbrev x : Step
+  x = start .args .step
+
+  abbrev place : Place
+  place = k .before .at .given .0 .0
+
+  admitted : Admitted s x (length (now (start .args .store))) place
+  admitted = subst (Admits s x _) (k .before .at .given .1) (asked .admit .ensures)
+
+  inside : Within (s .topology) place
+  inside = within s (admitted .sound) x (admitted .place)
 
   sizes : Lengths s
   sizes = lengths s _ (start .good .0)
 
--- at the spot
-module _ (k : tie.After-known-told Inv-loop μ-loop) where
-  abbrev d : tie.Else2 Inv-loop μ-loop
-  d = k .before .before .before .before .before
+-- the spot is read
+abbrev at : tie.After-held → tie.After-known-told
+at h = h .before .before .before .before .before .before .before .before
 
-  abbrev channel : ℕ
-  channel = k .before .channel .given .0 .0
+read-requires : tie.Need-read-requires
+read-requires c κs = inside (at (c .before .before .before))
 
-  abbrev process : ℕ
-  process = k .before .channel .given .0 .1 .0
+module _ (r : tie.After-read) where
+  abbrev held : tie.After-held
+  held = r .before .before .before .before
 
-  place : placeOf (s d .topology) (start d .args .step) ≡ At channel process
-  place = sym (k .before .before .before .find .ensures) ∙ k .before .channel .given .1
+  abbrev there : tie.After-known-told
+  there = at held
 
-  inside : Within channel process
-  inside = within (s d) (sounds d) (start d .args .step) channel process place
+  seen : Sees (view (s there)) (x there) (spotAt (s there) (x there) (place there) (held .held .result))
+  seen = sees (s there) (sizes there) (place there) (inside there) (x there) _ (admitted there .place) _ (held .held .ensures)
 
-returns : tie.Need-returns Inv-loop μ-loop
-returns c =
-    let t = c .before in
-    step-unsound _ _ _ _ (sym (t .before .sound .ensures) ∙ not-true _ (t .if1 .taken)) (c .refused .ensures)
-
-returns-2 : tie.Need-returns-2 Inv-loop μ-loop
-returns-2 c =
-    let d = c .before .before in
-    step-short _ _ _ _ (sym (d .before .sound .ensures) ∙ not-false _ (d .if1 .left)) (c .before .if2 .taken)
-    (c .refused2 .ensures)
-
-find-requires : tie.Need-find-requires Inv-loop μ-loop
-find-requires c κs = sizes-fit _ (sounds (c .before)) .channels
-
-returns-3 : tie.Need-returns-3 Inv-loop μ-loop
-returns-3 c =
-    let told = c .before in
-    let f = told .before .before in
-    let d = f .before .before in
-    step-nowhere (s d) _ _ _ (sounds d) (d .if2 .left) (sym (f .find .ensures) ∙ told .enum-told .given .1)
-    (c .refused3 .ensures)
-
--- once the spot is read
-abbrev known : tie.After-through Inv-loop μ-loop → tie.After-known-told Inv-loop μ-loop
-known t = t .before .before .before .before .before .before .before .before .before .before .before .before
-
-module _ (t : tie.After-through Inv-loop μ-loop) where
-  abbrev e : tie.Else2 Inv-loop μ-loop
-  e = d (known t)
-
-  abbrev holds : tie.After-held Inv-loop μ-loop
-  holds = t .before .before .before .before .before .before .before .before .before
-
-  seen : Sees (view (s e)) (start e .args .step)
-      (spotAt (s e) (channel (known t)) (process (known t)) (holds .held .result) (t .through .result))
-  seen =
-      sees (s e) (sizes e) (channel (known t)) (process (known t)) (inside (known t)) (start e .args .step)
-      (place (known t)) _ _ (holds .held .ensures) _ (t .through .ensures)
-
-through-requires : tie.Need-through-requires Inv-loop μ-loop
-through-requires c κs =
-    let k = c .before .before .before .before .before .before .before .before .before .before .before in
-    let fit = sizes-fit _ (sounds (d k)) in
-    (omega (arith, fit .processes, sizes (d k) .logical), omega (arith, fit .channels, sizes (d k) .closed))
-
-turn-requires : tie.Need-turn-requires Inv-loop μ-loop
+turn-requires : tie.Need-turn-requires
 turn-requires c κs =
-    let t = c .before .before .before .before .before .before .before .before .before in
-    (record { state = view (s (e t)); sees = seen t; sound = sounds (e t) }, e t .if2 .left)
-
--- once the turn is made
-abbrev read : tie.After-turn Inv-loop μ-loop → tie.After-through Inv-loop μ-loop
-read t = t .before .before .before .before .before .before .before .before .before .before
-
-abbrev made : tie.After-struct-known Inv-loop μ-loop → tie.After-turn Inv-loop μ-loop
-made t = t .before .before .before
-
-returns-4 : tie.Need-returns-4 Inv-loop μ-loop
-returns-4 c =
-    let t = made (c .before) in
-    let r = read t in
-    step-stopped (s (e r)) _ _ _ (sounds (e r)) (e r .if2 .left) _ (seen r) _ _ (t .turn .ensures)
-    (not-true _ (c .if3 .taken))
-
--- accepted
-abbrev spotted : tie.After-next Inv-loop μ-loop → tie.After-known-told Inv-loop μ-loop
-spotted n = known (read (made (n .before .before .before .before)))
-
-abbrev went : tie.Joined5 Inv-loop μ-loop → tie.Else3 Inv-loop μ-loop
-went c = c .before .before .before .before .before
-
-abbrev turned : tie.Joined5 Inv-loop μ-loop → tie.After-turn Inv-loop μ-loop
-turned c = made (went c .before)
-
--- the flags and the counts, set back or not
-set-back : {A : Type 0} (t : Bool) (a b z : A) → t ≡ true → a ≡ z → a ≡ cond t z b
-set-back t a b z on q = rw on q
-
-left-so : {A : Type 0} (t : Bool) (a b z : A) → t ≡ false → a ≡ b → a ≡ cond t z b
-left-so t a b z off q = rw off q
-
-flags-left : (j : tie.Joined4 Inv-loop μ-loop)
-    → let k = spotted (j .before) in
-    let r = made (j .before .before .before .before .before) .turn .result in
-    viewProgress (j .if4 .flags)
-    ≡ cond (r .reset .flags) noProgress (viewProgress (flagsWith (s (d k)) (channel k) (process k) r))
-flags-left j =
-    ⊎-elim (λ w. set-back _ _ _ _ (w .0 .taken) (ap viewProgress (w .2) ∙ w .1 .ensures))
-    (λ w. left-so _ _ _ _ (w .0 .left) (ap viewProgress (w .1))) (j .if4 .came)
-
-counts-left : (j : tie.Joined5 Inv-loop μ-loop)
-    → let k = spotted (j .before .before) in
-    let r = turned j .turn .result in
-    viewCounts (j .if5 .counts)
-    ≡ cond (r .reset .counts) noCounts (viewCounts (countsWith (s (d k)) (channel k) (process k) r))
-counts-left j =
-    ⊎-elim (λ w. set-back _ _ _ _ (w .0 .taken) (ap viewCounts (w .2) ∙ w .1 .ensures))
-    (λ w. left-so _ _ _ _ (w .0 .left) (ap viewCounts (w .1))) (j .if5 .came)
-
-returns-6 : tie.Need-returns-6 Inv-loop μ-loop
-returns-6 c =
-    let f = c .before .before in
-    let k = f .before in
-    let t = turned k in
-    let r = read t in
-    step-went (s (e r)) _ _ _ (sounds (e r)) (e r .if2 .left) _ (seen r) _ _ (t .turn .ensures)
-    (not-false _ (went k .if3 .left)) _
-    (put-plain (s (e r)) (sizes (e r)) _ _ (inside (known r)) _ _ (t .turn .result) (k .before .if4 .flags)
-    (k .if5 .counts) (flags-left (k .before)) (counts-left k) (f .if6 .left) _
-    (c .places3 .ensures))
-
-loop-holds : tie.Need-loop-holds Inv-loop μ-loop
-loop-holds c =
-    let n = sizes (e (read (turned (c .before)))) in (omega arith, n .places, n .lengths, plain-to-none _)
-
--- a turn of the loop: the channel is one of the array, and its entries are within their room
-module _ (t : tie.Then7 Inv-loop μ-loop) where
-  abbrev l : tie.At-loop Inv-loop μ-loop
-  l = t .before .before
-
-  abbrev f : tie.Else2 Inv-loop μ-loop
-  f = e (read (turned (l .before .before)))
-
-  abbrev i : ℕ
-  i = l .loop .i
-
-  below : i < channelLimit
-  below = omega (arith, t .if7 .taken, sizes-fit _ (sounds f) .channels)
-
-  in-places : i < length (l .loop .state .places)
-  in-places = omega (arith, below, l .loop .inv .1)
-
-  in-lengths : i < length (l .loop .state .lengths)
-  in-lengths = omega (arith, below, l .loop .inv .2)
-
-  as-before : view (l .loop .state) .channel i ≡ view (s f) .channel i
-  unfolding view
-  as-before = next-channel _ (view (l .loop .state)) i (l .loop .inv .3)
-
-plain-requires : tie.Need-plain-requires Inv-loop μ-loop
-unfolding view
-plain-requires c κs =
-    let t = c .before .before .before in
-    let g = view (s (f t)) in
-    count-fits _ _ (sym (as-before t) ∙ channel-read (l t .loop .state) (i t) (in-places t) _ (c .held2 .ensures))
-    (entries-fit g (sound-facts g (sounds (f t))) (i t) (t .if7 .taken))
-
-loop-again : tie.Need-loop-again Inv-loop μ-loop
-unfolding view
-loop-again c =
-    let made = c .before in
-    let read = made .before in
-    let t = read .before .before .before in
-    let inv = l t .loop .inv in (
-      omega arith,
-      simp length-set (inv .1),
-      simp length-set (inv .2),
-      channel-set (l t .loop .state) (i t) (in-places t) (in-lengths t) (made .plain .result) (c .places2 .result)
-          (c .places2 .ensures)
-          ∙ plain-to-more _ (view (l t .loop .state)) (i t) (inv .3) _
-          (made .plain .ensures
-          ∙ ap (λ (es : List Entry). messages false (bodies es))
-          (sym (channel-read (l t .loop .state) (i t) (in-places t) _ (read .held2 .ensures)) ∙ as-before t)),
+    let r = c .before in
+    let k = there r in (
+      record {
+        state = view (s k);
+        sees = subst (Sees (view (s k)) (x k)) (sym (r .read .ensures)) (seen r);
+        sound = admitted k .sound;
+      },
+      admitted k .store,
     )
 
-returns-5 : tie.Need-returns-5 Inv-loop μ-loop
-returns-5 c =
-    let at = c .before .before .before in
-    let k = at .before .before in
-    let t = turned k in
-    let r = read t in
-    let all : at .loop .i ≡ s (e r) .topology .channels = omega arith in
-    step-went (s (e r)) _ _ _ (sounds (e r)) (e r .if2 .left) _ (seen r) _ _ (t .turn .ensures)
-    (not-false _ (went k .if3 .left)) _
-    (put-marks (s (e r)) (sizes (e r)) _ _ (inside (known r)) _ _ (t .turn .result) (k .before .if4 .flags)
-    (k .if5 .counts) (flags-left (k .before)) (counts-left k) (at .before .if6 .taken)
-    (at .loop .state) (rw all at (at .loop .inv .3)))
+-- the turn is made
+module _ (t : tie.After-struct-known3) where
+  abbrev turned : tie.After-turn
+  turned = t .before .before .before
 
--- a turn of the loop, where the channel with its messages alone is ready
-abbrev turning : tie.After-places2 Inv-loop μ-loop → tie.Then7 Inv-loop μ-loop
-turning c = c .before .before .before .before .before
+  abbrev read : tie.After-read
+  read = turned .before .before
 
--- the spot, where its channel is written back
-abbrev put : tie.After-places3 Inv-loop μ-loop → tie.After-known-told Inv-loop μ-loop
-put c = spotted (c .before .before .before .before .before)
+  abbrev came : Turn
+  came = turned .turn .result
 
+  abbrev here : tie.After-known-told
+  here = there read
+
+stopped : tie.Need-returns-2
+stopped c =
+    let t = c .before .before in
+    let k = here t in
+    step-stopped (s k) (x k) _ _ (admitted k) (seen (read t)) (read t .read .ensures) (turned t .turn .ensures)
+    (not-true _ (c .before .if1 .taken)) (c .answered .ensures)
+
+-- accepted, and its arrays are written back one by one
+module _ (b : tie.After-channel-count) where
+  abbrev messages : tie.After-process-count
+  messages = b .before .before
+
+  abbrev sent : tie.After-channel-flag2
+  sent = messages .before .before
+
+  abbrev closed : tie.After-channel-flag
+  closed = sent .before .before
+
+  abbrev logical : tie.After-process-flag2
+  logical = closed .before .before
+
+  abbrev tags : tie.After-process-flag
+  tags = logical .before .before
+
+  abbrev next : tie.After-next
+  next = tags .before .before
+
+  abbrev goes : tie.Else1
+  goes = next .before .before .before
+
+  abbrev made : tie.After-struct-known3
+  made = goes .before
+
+  changed : Rewritten (s (here made)) (place (here made)) (came made) (tags .process-flag .last .0)
+      (record {
+        logical = logical .process-flag2 .last .0;
+        closed = closed .channel-flag .last .0;
+        sent = sent .channel-flag2 .last .0;
+      })
+      (record { messages = messages .process-count .last .0; channels = b .channel-count .last .0 })
+  changed =
+      record {
+        tags = tags .process-flag .ensures;
+        logical = logical .process-flag2 .ensures;
+        closed = closed .channel-flag .ensures;
+        sent = sent .channel-flag2 .ensures;
+        messages = messages .process-count .ensures;
+        channels = b .channel-count .ensures;
+      }
+
+plain-channels-requires : tie.Need-plain-channels-requires
+unfolding view
+plain-channels-requires c κs =
+    let k = here (made (c .before)) in
+    record { number = inside k .channels; entries = entries-fit (view (s k)) (sound-facts _ (admitted k .sound)) }
+
+written-back : (j : tie.Joined2)
+    → let t = made (j .before) in
+    let k = here t in
+    view (j .if2 .state)
+    ≡ putBack (spotAt (s k) (x k) (place k) (held (read t) .held .result)) (came t) (view (s k))
+written-back j =
+    let b = j .before in
+    let t = made b in
+    let k = here t in
+    ⊎-elim
+    (λ w. ap view (w .2)
+    ∙ put-marks (s k) (sizes k) (place k) (inside k) (x k) _ (came t) (changed b) (w .0 .taken) _
+    (w .1 .ensures))
+    (λ w. ap view (w .2)
+    ∙ put-plain (s k) (sizes k) (place k) (inside k) (x k) _ (came t) (changed b) (w .0 .left) _ (w .1 .ensures))
+    (j .if2 .came)
+
+accepted : tie.Need-returns-3
+accepted c =
+    let b = c .before .before in
+    let t = made b in
+    let k = here t in
+    step-went (s k) (x k) _ _ (admitted k) (seen (read t)) (read t .read .ensures) (turned t .turn .ensures)
+    (not-false _ (goes b .if1 .left)) (written-back (c .before)) (c .answered2 .ensures)
+
+-- the place, where an array is read, and before each of them is written
+abbrev reading : tie.After-counts → tie.After-known-told
+reading c = c .before .before .before .before .before
+
+abbrev writing : tie.After-next → tie.After-known-told
+writing n = here (n .before .before .before .before)
+
+abbrev tagged : tie.After-process-flag → tie.After-known-told
+tagged c = writing (c .before .before)
+
+abbrev marked : tie.After-process-flag2 → tie.After-known-told
+marked c = tagged (c .before .before)
+
+abbrev shut : tie.After-channel-flag → tie.After-known-told
+shut c = marked (c .before .before)
+
+abbrev noted : tie.After-channel-flag2 → tie.After-known-told
+noted c = shut (c .before .before)
+
+abbrev counted : tie.After-process-count → tie.After-known-told
+counted c = noted (c .before .before)
+
+abbrev putting : tie.After-places → tie.After-known-told
+putting c = here (made (c .before .before))
+
+-- the store is as long as before
+same-length : tie.Need-same-length
+same-length c = search needs
+
+same-length-2 : tie.Need-same-length-2
+same-length-2 c = let kept = turned (made (c .before .before)) .turn .kept in search needs
+
+-- every need, in the order of the code
 pub step-spec : {M : Type 1} → statement M
 step-spec =
+    let cast-channel : tie.Need-cast-c = λ c. omega (arith, inside (c .before) .channel) in
+    let cast-process : tie.Need-cast-p = λ c. omega (arith, inside (c .before .before) .process) in
+    let index-places : tie.Need-element-copy-out-held = λ c. inside (reading c) .channel in
+    let offset-places : tie.Need-mul-held = λ c. omega (arith, inside (reading c) .channel) in
+    let index-lengths : tie.Need-element-copy-out-held-2 = λ c. inside (reading (c .before)) .channel in
+    let offset-words : tie.Need-mul-word = λ c. omega (arith, inside (at c) .process) in
+    let index-words : tie.Need-element-copy-out-word = λ c. inside (at c) .process in
+    let index-tags : tie.Need-element-copy-out-tag = λ c. inside (at (c .before)) .process in
+    let offset-word : tie.Need-mul-state = λ c. omega (arith, inside (writing c) .process) in
+    let index-word : tie.Need-element-write-state = λ c. inside (writing c) .process in
+    let index-tag : tie.Need-process-flag-requires = λ c κs. inside (writing (c .before)) .process in
+    let index-logical : tie.Need-process-flag-requires-2 = λ c κs. inside (tagged (c .before)) .process in
+    let index-closed : tie.Need-channel-flag-requires = λ c κs. inside (marked (c .before)) .channel in
+    let index-sent : tie.Need-channel-flag-requires-2 = λ c κs. inside (shut (c .before)) .channel in
+    let index-messages : tie.Need-process-count-requires = λ c κs. inside (noted (c .before)) .process in
+    let index-channels : tie.Need-channel-count-requires = λ c κs. inside (counted (c .before)) .channel in
+    let offset-channel : tie.Need-mul-t55 = λ c. omega (arith, inside (putting c) .channel) in
+    let index-channel : tie.Need-element-set-from-state = λ c. inside (putting c) .channel in
+    let index-length : tie.Need-element-write-state-2 = λ c. inside (putting c) .channel in
     tie.close
-    (tie.spec Inv-loop μ-loop (λ c κs. search needs) (λ c κs. search needs) returns (λ c κs. search needs) returns-2
-    find-requires (λ c. search needs) (λ c. search needs) (λ c κs. search needs) returns-3 (λ c. search needs)
-    (λ c. search needs) (λ c. omega (arith, inside c .channel)) (λ c. inside c .channel)
-    (λ c. inside (c .before) .channel) (λ c κs. search needs) through-requires (λ c. inside (known c) .channel)
-    (λ c. inside (known (c .before)) .channel) (λ c. inside (known (c .before .before)) .channel)
-    (λ c. omega (arith, inside (known (c .before .before .before)) .process))
-    (λ c. inside (known (c .before .before .before)) .process)
-    (λ c. inside (known (c .before .before .before .before)) .process)
-    (λ c. inside (known (c .before .before .before .before .before)) .process)
-    (λ c. inside (known (c .before .before .before .before .before .before)) .process) (λ c. search needs)
-    turn-requires (λ c. search needs) returns-4 (λ c. omega (arith, inside (spotted c) .process))
-    (λ c. inside (spotted c) .process) (λ c. inside (spotted c) .channel) (λ c. inside (spotted c) .channel)
-    (λ c. inside (spotted c) .process) (λ c. inside (spotted c) .channel) (λ c. inside (spotted c) .process)
-    (λ c κs. search needs) (λ c κs. search needs) loop-holds (λ c. omega (arith, below c))
-    (λ c. omega (arith, below c)) (λ c. below c) (λ c. below (c .before)) (λ c κs. search needs) plain-requires
-    (λ c κs. search needs) (λ c. omega (arith, below (turning c))) (λ c. below (turning c)) (λ c. below (turning c))
-    (λ c. omega (arith, below (turning c))) (λ c. omega arith) loop-again (λ c. search needs) returns-5
-    (λ c. inside (spotted (c .before .before .before)) .process) (λ c κs. search needs)
-    (λ c. omega (arith, inside (put c) .channel)) (λ c. inside (put c) .channel) (λ c. inside (put c) .channel)
-    (λ c. search needs) returns-6)
+    (tie.spec
+    (λ c κs. search needs)
+    (λ c. search needs)
+    (λ c. search needs)
+    (λ c κs. search needs)
+    refused
+    cast-channel
+    cast-process
+    offset-places
+    index-places
+    index-lengths
+    (λ c κs. search needs)
+    offset-words
+    index-words
+    index-tags
+    read-requires
+    turn-requires
+    (λ c κs. search needs)
+    same-length
+    stopped
+    offset-word
+    index-word
+    index-tag
+    index-logical
+    index-closed
+    index-sent
+    index-messages
+    index-channels
+    plain-channels-requires
+    (λ c κs. search needs)
+    offset-channel
+    index-channel
+    index-length
+    (λ c κs. search needs)
+    same-length-2
+    accepted)
