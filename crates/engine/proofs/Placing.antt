@@ -19,7 +19,6 @@ use Rattle.model.specs.Sound.{sound}
 use Rattle.model.specs.Step.{priorChecks, roomChecks, logChecks, ownChecks, quietly}
 use Rattle.model.specs.Outcome.{refusalNumber}
 use Rattle.model.specs.Outcome as says
-use Rattle.engine.specs.declared.spot.Place.{Place}
 use Rattle.engine.specs.declared.spot.Admission.{Admission}
 use Rattle.engine.specs.declared.spot.Admission.the-variants.{At}
 use Rattle.engine.specs.declared.spot.Admission.the-variants as admission

@@ -3,7 +3,7 @@
 use Prim.Native.Nat.{ℕ, _+_, _<_, _≤_, _^_}
 use mathlib.Core.Path.{_≡_, refl, sym, ap, subst, _∙_}
 use mathlib.Core.Bool.{Bool, true, false, cond}
-use mathlib.Core.List.{List, []}
+use mathlib.Core.List.{List}
 use mathlib.Core.Option.{none, some}
 use lib.ListN.{length, take}
 use borrow.Author.Tests.{le-ltb, lt-ltb, eqb-false, not-true}
@@ -11,8 +11,7 @@ use native.Mathlib.Omega.{arith}
 use native.Mathlib.Nat.{min-eq-left, min-eq-right}
 use Rattle.model.specs.declared.Topology.{Topology}
 use Rattle.model.specs.declared.Step.{Step}
-use Rattle.model.specs.declared.Outcome.{Outcome}
-use Rattle.model.specs.declared.Outcome.the-variants.{Done, Refused, PowerLost}
+use Rattle.model.specs.declared.Outcome.the-variants.{Refused, PowerLost}
 use Rattle.model.specs.declared.Refusal.{Refusal}
 use Rattle.model.specs.Notation.{upd}
 use Rattle.model.specs.Check.{firstRefusal}
@@ -21,7 +20,7 @@ use Rattle.model.specs.Topology.{sender, receiver, hasProcess, hasChannel}
 use Rattle.model.specs.Phase.{isIdle}
 use Rattle.model.specs.State.{GlobalState, Progress}
 use Rattle.model.specs.Sound.{lastLine, lineSound}
-use Rattle.model.specs.Write.{Result, Answered, Write, underBudget, writeAll}
+use Rattle.model.specs.Write.{Result, Write, underBudget, writeAll}
 use Rattle.model.specs.Step.{ownChecks, resultOf, effect, quietly}
 use Rattle.model.specs.Outcome.{refusalNumber, saidBy}
 use Rattle.model.specs.Heard.{accepted}
@@ -33,7 +32,7 @@ use Rattle.engine.specs.declared.spot.Place.{Place}
 use Rattle.engine.specs.declared.spot.Spot.{Spot}
 use Rattle.engine.specs.declared.spot.Turn.{Turn}
 use Rattle.engine.specs.Answers.{ownResult}
-use Rattle.engine.specs.Spots.{at, noSuch, sending, receiving, onProcess, Sees, Seen, putBack, afterTurn}
+use Rattle.engine.specs.Spots.{at, noSuch, sending, receiving, onProcess, Sees, Seen, putBack}
 use Rattle.engine.specs.Spots.{Turns, QuietTurn, stopping}
 use Rattle.engine.proofs.Promises.{unbudgeted}
 
@@ -146,22 +145,22 @@ module _ (s : Spot) (x : Step) where
 -- What a turn leaves as it was is written back as it was.
 module _ {g : GlobalState} {x : Step} {s : Spot} (v : Sees g x s) where
   pub same-word : upd (g .word) (s .process) (s .word) ≡ g .word
-  same-word = unchanged (g .word) (s .process) (s .word) (v .word)
+  same-word = unchanged _ _ _ (v .word)
 
   pub same-tag : upd (g .tag) (s .process) (s .tag) ≡ g .tag
-  same-tag = unchanged (g .tag) (s .process) (s .tag) (v .tag)
+  same-tag = unchanged _ _ _ (v .tag)
 
   pub same-channel : upd (g .channel) (s .channel) (entries (s .held)) ≡ g .channel
-  same-channel = unchanged (g .channel) (s .channel) (entries (s .held)) (v .held)
+  same-channel = unchanged _ _ _ (v .held)
 
   pub same-logical : upd (g .progress .logical) (s .process) (s .logical) ≡ g .progress .logical
-  same-logical = unchanged (g .progress .logical) (s .process) (s .logical) (v .logical)
+  same-logical = unchanged _ _ _ (v .logical)
 
   pub same-closed : upd (g .progress .closed) (s .channel) (s .closed) ≡ g .progress .closed
-  same-closed = unchanged (g .progress .closed) (s .channel) (s .closed) (v .closed)
+  same-closed = unchanged _ _ _ (v .closed)
 
   pub same-sent : upd (g .progress .sent) (s .channel) (s .sent) ≡ g .progress .sent
-  same-sent = unchanged (g .progress .sent) (s .channel) (s .sent) (v .sent)
+  same-sent = unchanged _ _ _ (v .sent)
 
   pub same-progress : record {
     logical = upd (g .progress .logical) (s .process) (s .logical);
@@ -191,7 +190,8 @@ pub next-line : {x : Step} {s : Spot} → Seen x s → isIdle (s .round .phase) 
     → s .round .line + 1 < 2 ^ 32
 unfolding lineSound
 next-line {s = s} seen busy l =
-    let fits : lineSound (s .round) ≡ true = rw (← (seen .sees .round)) (sound-facts (seen .state) (seen .sound) .line) in
+    let facts = sound-facts (seen .state) (seen .sound) in
+    let fits : lineSound (s .round) ≡ true = rw (← (seen .sees .round)) (facts .line) in
     omega (arith, eqb-false (s .round .line) lastLine (not-true _ (rw busy at fits)))
 
 -- two results that agree in every part

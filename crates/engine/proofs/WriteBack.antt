@@ -1,9 +1,9 @@
 -- How the state is seen at a spot, and the state with a turn written back: what `step` needs, once for the eight steps.
-use Prim.Native.Nat.{ℕ, _<_, _≤_}
+use Prim.Native.Nat.{ℕ, _<_}
 use mathlib.Core.Path.{_≡_, refl, sym, ap, subst, _∙_}
 use mathlib.Core.Bool.{Bool, true, false, cond}
 use mathlib.Core.List.{List}
-use lib.ListN.{length, getD, set, replicate}
+use lib.ListN.{length, getD, set}
 use Rattle.model.specs.declared.State.{State}
 use Rattle.model.specs.declared.Flags.{Flags}
 use Rattle.model.specs.declared.Counts.{Counts}
@@ -24,7 +24,8 @@ use Rattle.engine.specs.declared.spot.Admission.the-variants.{At}
 use Rattle.engine.specs.declared.spot.Spot.{Spot}
 use Rattle.engine.specs.declared.spot.Turn.{Turn}
 use Rattle.engine.specs.Answers.{Meets, Answers}
-use Rattle.engine.specs.Spots.{placeOf, Admitted, Sees, Within, spotOf, rewritten, putBack, afterTurn, Turns, answerOf}
+use Rattle.engine.specs.Spots.{placeOf, Admitted, Within, Sees, Turns, putBack, afterTurn}
+use Rattle.engine.specs.Spots.{spotOf, rewritten, answerOf}
 use Rattle.engine.proofs.Views.{same-state, channel-read, channels-set}
 use Rattle.engine.proofs.Lengths.{Lengths}
 use Rattle.engine.proofs.Promises.{step-own}

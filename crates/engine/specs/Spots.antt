@@ -20,13 +20,13 @@ use Rattle.model.specs.Notation.{upd, allBelow}
 use Rattle.model.specs.Topology.{processLimit, channelLimit, sender, receiver, hasProcess, hasChannel}
 use Rattle.model.specs.Channel.{channelRoom, entries}
 use Rattle.model.specs.Layout.{storeCells}
-use Rattle.model.specs.State.{GlobalState, Progress, LogCounts, noProgress, noCounts, view}
+use Rattle.model.specs.State.{GlobalState, noProgress, noCounts, view}
 use Rattle.model.specs.Sound.{sound}
-use Rattle.model.specs.Change.{plainChannels, setEntries}
+use Rattle.model.specs.Change.{plainChannels}
 use Rattle.model.specs.Outcome.{refusalNumber, saidBy}
 use Rattle.model.specs.Outcome as says
 use Rattle.model.specs.Heard.{accepted}
-use Rattle.model.specs.Write.{Answered, underBudget}
+use Rattle.model.specs.Write.{underBudget}
 use Rattle.model.specs.Step.{step, quietly}
 use Rattle.engine.specs.declared.spot.Place.{Place}
 use Rattle.engine.specs.declared.spot.Admission.{Admission}

@@ -1,12 +1,10 @@
 -- `engine::dispatch::admit` meets its contract: 15, 6 and 8, each where those before it are not.
-use Prim.Native.Nat.{ℕ, _≤_}
-use mathlib.Core.Path.{_≡_, sym, subst, _∙_}
+use mathlib.Core.Path.{_≡_, sym, _∙_}
 use mathlib.Core.Bool.{true}
 use borrow.Author.Needs.{needs}
 use borrow.Author.Tests.{not-true, not-false}
 use Rattle.model.specs.State.{view}
 use Rattle.model.specs.Sound.{sound}
-use Rattle.engine.specs.Spots.{Admits}
 use Rattle.engine.proofs.Bounds.{sizes-fit}
 use Rattle.engine.proofs.Promises.{unsound, short}
 use Rattle.engine.proofs.Placing.{found-admits}

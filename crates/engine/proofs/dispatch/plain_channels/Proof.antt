@@ -8,13 +8,12 @@ use lib.ListN.{length, length-set}
 use native.Mathlib.Omega.{arith}
 use borrow.Author.Needs.{needs}
 use Rattle.model.specs.declared.Entry.{Entry}
-use Rattle.model.specs.declared.State.{State}
 use Rattle.model.specs.Topology.{channelLimit, hasChannel}
 use Rattle.model.specs.Channel.{bodies, messages}
 use Rattle.model.specs.State.{view}
 use Rattle.model.specs.Change.{plainChannels}
 use Rattle.engine.proofs.Bounds.{count-fits}
-use Rattle.engine.proofs.Lengths.{Lengths, lengths}
+use Rattle.engine.proofs.Lengths.{lengths}
 use Rattle.engine.proofs.Views.{channel-read, channel-set}
 use Rattle.engine.proofs.Aborting.{plainTo, plain-to-none, next-channel, plain-to-more}
 use Rattle.engine.proofs.dispatch.plain_channels.Statement.{statement}

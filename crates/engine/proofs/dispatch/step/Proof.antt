@@ -1,10 +1,7 @@
 -- `engine::step` meets its contract: refused by `admit`, or what its turn promises of every state that looks so at the
 -- spot, of the one at hand.
-use Prim.Native.Nat.{ℕ, _<_, _≤_}
-use mathlib.Core.Path.{_≡_, refl, sym, ap, subst, _∙_}
-use mathlib.Core.Bool.{true, false}
+use mathlib.Core.Path.{_≡_, sym, ap, subst, _∙_}
 use mathlib.Core.Logic.{⊎-elim}
-use mathlib.Core.List.{List}
 use lib.ListN.{length}
 use denote.Ref.{now}
 use native.Mathlib.Omega.{arith}
@@ -15,8 +12,6 @@ use Rattle.model.specs.declared.Step.{Step}
 use Rattle.model.specs.State.{view}
 use Rattle.model.proofs.laws.SoundLaws.{sound-facts, entries-fit}
 use Rattle.engine.specs.declared.spot.Place.{Place}
-use Rattle.engine.specs.declared.spot.Admission.{Admission}
-use Rattle.engine.specs.declared.spot.Spot.{Spot}
 use Rattle.engine.specs.declared.spot.Turn.{Turn}
 use Rattle.engine.specs.Spots.{Admits, Admitted, Within, Sees, putBack}
 use Rattle.engine.proofs.Lengths.{Lengths, lengths}
@@ -77,7 +72,9 @@ module _ (r : tie.After-read) where
   there = at held
 
   seen : Sees (view (s there)) (x there) (spotAt (s there) (x there) (place there) (held .held .result))
-  seen = sees (s there) (sizes there) (place there) (inside there) (x there) _ (admitted there .place) _ (held .held .ensures)
+  seen =
+      sees (s there) (sizes there) (place there) (inside there) (x there) _ (admitted there .place) _
+      (held .held .ensures)
 
 turn-requires : tie.Need-turn-requires
 turn-requires c κs =
@@ -241,39 +238,8 @@ step-spec =
     let index-channel : tie.Need-element-set-from-state = λ c. inside (putting c) .channel in
     let index-length : tie.Need-element-write-state-2 = λ c. inside (putting c) .channel in
     tie.close
-    (tie.spec
-    (λ c κs. search needs)
-    (λ c. search needs)
-    (λ c. search needs)
-    (λ c κs. search needs)
-    refused
-    cast-channel
-    cast-process
-    offset-places
-    index-places
-    index-lengths
-    (λ c κs. search needs)
-    offset-words
-    index-words
-    index-tags
-    read-requires
-    turn-requires
-    (λ c κs. search needs)
-    same-length
-    stopped
-    offset-word
-    index-word
-    index-tag
-    index-logical
-    index-closed
-    index-sent
-    index-messages
-    index-channels
-    plain-channels-requires
-    (λ c κs. search needs)
-    offset-channel
-    index-channel
-    index-length
-    (λ c κs. search needs)
-    same-length-2
-    accepted)
+    (tie.spec (λ c κs. search needs) (λ c. search needs) (λ c. search needs) (λ c κs. search needs) refused
+    cast-channel cast-process offset-places index-places index-lengths (λ c κs. search needs) offset-words index-words
+    index-tags read-requires turn-requires (λ c κs. search needs) same-length stopped offset-word index-word index-tag
+    index-logical index-closed index-sent index-messages index-channels plain-channels-requires (λ c κs. search needs)
+    offset-channel index-channel index-length (λ c κs. search needs) same-length-2 accepted)

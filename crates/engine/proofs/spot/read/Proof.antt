@@ -1,5 +1,4 @@
 -- `engine::spot::read` meets its contract.
-use mathlib.Core.Path.{_≡_, refl}
 use native.Mathlib.Omega.{arith}
 use borrow.Author.Needs.{needs}
 use Rattle.model.proofs.laws.Functions.{length-of}
