@@ -1,6 +1,6 @@
 // Topologies and states made by hand: one of each to start from, and functions that change a thing of it.
-use model::CHANNEL_ROOM;
 use model::CHANNELS;
+use model::PLACES;
 use model::PROCESSES;
 use model::Phase;
 use model::Round;
@@ -89,7 +89,7 @@ pub fn in_phase(mut state: State, phase: Phase) -> State {
 pub fn with_messages(mut state: State, channel: usize, count: u8) -> State {
     let c = channel % CHANNELS;
     let mut places = state.places[c];
-    places.bodies = [BODY; CHANNEL_ROOM];
+    places.bodies = [BODY; PLACES];
     state.places[c] = places;
     state.lengths[c] = count;
     state

@@ -1,7 +1,7 @@
 -- How a state of the code is seen: a channel as the code reads it, and the state after one of its arrays was changed.
 -- Two states are equal part by part.
 use Prim.Native.Nat.{ℕ, _<_}
-use mathlib.Core.Path.{_≡_, refl, sym, ap, _∙_}
+use mathlib.Core.Path.{_≡_, refl, sym, ap, ap₂, _∙_}
 use lib.ListN.{length, getD, set}
 use Rattle.model.specs.declared.State.{State}
 use Rattle.model.specs.declared.Channel.{Channel}
@@ -28,14 +28,15 @@ module _ (s : State) (c : ℕ) (in-places : c < length (s .places)) where
       ∙ ap entries (sym e)
 
   -- the channels with one exchanged for x
-  module _ (in-lengths : c < length (s .lengths)) (x : Channel) (places : Places) (e : places ≡ placesOf x) where
-    pub channels-set : entriesIn (set (s .places) c places) (set (s .lengths) c (x .count))
+  module _ (in-lengths : c < length (s .lengths)) (x : Channel) (places : Places) (n : ℕ) (e : places ≡ placesOf x)
+      (used : n ≡ x .count) where
+    pub channels-set : entriesIn (set (s .places) c places) (set (s .lengths) c n)
         ≡ upd (view s .channel) c (entries x)
     unfolding view
     channels-set =
-        seen-set-both (λ (p : Places) (n : ℕ). entries (held p n)) (s .places) (s .lengths) c places noPlaces (x .count)
-        0 in-places in-lengths
-        ∙ ap (λ (p : Places). upd (view s .channel) c (entries (held p (x .count)))) e
+        seen-set-both (λ (p : Places) (n : ℕ). entries (held p n)) (s .places) (s .lengths) c places noPlaces n 0
+        in-places in-lengths
+        ∙ ap₂ (λ (p : Places) (n : ℕ). upd (view s .channel) c (entries (held p n))) e used
 
     -- and the state with it
     pub channel-set : view
@@ -45,7 +46,7 @@ module _ (s : State) (c : ℕ) (in-places : c < length (s .places)) where
           words = s .words;
           tags = s .tags;
           places = set (s .places) c places;
-          lengths = set (s .lengths) c (x .count);
+          lengths = set (s .lengths) c n;
           flags = s .flags;
           counts = s .counts;
         })

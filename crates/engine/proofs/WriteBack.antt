@@ -156,14 +156,14 @@ module _ (s : State) (n : Lengths s) (l : Place) (w : Within (s .topology) l) (x
         })
         ∙ counts-parts z _ _
 
-    pub put-plain : r .reset .marks ≡ false → (places : Places) → places ≡ placesOf (r .spot .held)
-        → view (written (set (s .places) (l .channel) places) (set (s .lengths) (l .channel) (r .spot .held .count)))
-        ≡ back
+    pub put-plain : r .reset .marks ≡ false → (places : Places) (used : ℕ) → places ≡ placesOf (r .spot .held)
+        → used ≡ r .spot .held .count
+        → view (written (set (s .places) (l .channel) places) (set (s .lengths) (l .channel) used)) ≡ back
     unfolding putBack view
-    put-plain m places q =
+    put-plain m places used q u =
         same-state refl refl words tags
         (channels-set s (l .channel) (rw (n .places) (w .channel)) (rw (n .lengths) (w .channel)) (r .spot .held) places
-        q
+        used q u
         ∙ rw m)
         progress counts
 

@@ -13,7 +13,7 @@ use Rattle.model.specs.declared.Entry.{Entry}
 use Rattle.model.specs.declared.Entry.the-variants.{Message, Marker}
 use Rattle.model.specs.Word.{receipt, enter}
 use Rattle.model.specs.Topology.{processLimit, channelLimit}
-use Rattle.model.specs.Channel.{channelRoom, entries}
+use Rattle.model.specs.Channel.{arrayPlaces, entries}
 use Rattle.model.specs.Layout.{Log, messageLog, channelLog, messagePlaces, channelPlaces, countCell, entryFor}
 use Rattle.model.specs.Write.{Write}
 use Rattle.rules.specs.declared.reaction.Reaction.{Reaction}
@@ -25,7 +25,7 @@ use Rattle.engine.specs.Spent.{appendIf}
 pub record Fits (s : Spot) : Type 0 where
   pub channel : s .channel < channelLimit
   pub receiver : s .process < processLimit
-  pub entries : s .held .count ≤ channelRoom
+  pub entries : s .held .count ≤ arrayPlaces
   pub inChannel : s .«in_channel» ≤ channelPlaces
   pub inMessages : s .«in_messages» ≤ messagePlaces
 

@@ -74,7 +74,7 @@ fn plain_channels(mut state: State) -> State
         let at = i as usize;
         let plain = entries::plain(channel::held(state.places[at], state.lengths[at]));
         state.places[at] = channel::places(plain);
-        state.lengths[at] = plain.count;
+        state.lengths[at] = channel::used(plain);
         i += 1;
     }
     state
@@ -128,7 +128,7 @@ pub fn step(mut state: State, step: Step, store: &mut [u32], budget: u32) -> Ans
         state = plain_channels(state);
     } else {
         state.places[c] = channel::places(new.held);
-        state.lengths[c] = new.held.count;
+        state.lengths[c] = channel::used(new.held);
     }
     answered(came, state)
 }

@@ -17,6 +17,10 @@ use Rattle.model.specs.Word.{receipt}
 abbrev pub channelRoom : ℕ
 channelRoom = 8
 
+-- how many places a channel's arrays have in the code; no rule rests on it
+abbrev pub arrayPlaces : ℕ
+arrayPlaces = 8
+
 -- the channel that these places hold, of which n are used; and a channel's places
 abbrev pub held : Places → ℕ → Channel
 held places n = record { bodies = places .bodies; kinds = places .kinds; count = n }

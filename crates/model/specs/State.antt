@@ -14,7 +14,7 @@ use Rattle.model.specs.declared.Places.{Places}
 use Rattle.model.specs.declared.Entry.{Entry}
 use Rattle.model.specs.Notation.{upd}
 use Rattle.model.specs.Topology.{channelLimit}
-use Rattle.model.specs.Channel.{channelRoom, held, entries}
+use Rattle.model.specs.Channel.{arrayPlaces, held, entries}
 use Rattle.model.specs.Layout.{Log, messageLog, channelLog}
 
 -- what the round under way has done: processes that have their logical checkpoint (marked boards), closed wires, wires
@@ -97,7 +97,7 @@ viewCounts n = record { messages = λ p. getD (n .messages) p 0; channels = λ c
 
 -- places with nothing in them, for an index past the array; and a channel with no entry
 unfoldable pub noPlaces : Places
-noPlaces = record { bodies = replicate channelRoom 0; kinds = replicate channelRoom 0 }
+noPlaces = record { bodies = replicate arrayPlaces 0; kinds = replicate arrayPlaces 0 }
 
 abbrev pub emptyChannel : Channel
 emptyChannel = held noPlaces 0

@@ -1,12 +1,13 @@
 // The types that every crate here shares. Their meaning is in specs/: State.antt sees a State as an abstract
 // global state, and everything else is said of that.
 
-// Document 01: "a plan has 1 to 16" boards, "0 to 64" wires, and a wire "holds at most 8 entries", each in a place.
+// Document 01: "a plan has 1 to 16" boards, "0 to 64" wires, and a wire "holds at most 8 entries": so long are the
+// arrays, and a channel's entries have a place each.
 pub const PROCESSES: usize = 16;
 
 pub const CHANNELS: usize = 64;
 
-pub const CHANNEL_ROOM: usize = 8;
+pub const PLACES: usize = 8;
 
 // Document 01's plan: how many processes (boards) and channels (wires) there are, and the two ends of each channel.
 pub struct Topology {
@@ -39,15 +40,15 @@ pub enum Entry {
 // A channel's 8 places, first in first out from place 0. Kind 0 is a message tagged 0, kind 1 a message tagged 1,
 // and any other kind a marker.
 pub struct Places {
-    pub bodies: [u32; CHANNEL_ROOM],
-    pub kinds: [u8; CHANNEL_ROOM],
+    pub bodies: [u32; PLACES],
+    pub kinds: [u8; PLACES],
 }
 
 // A channel by value: its places, and how many are used. Places from count on are unused. (A state has its channels'
 // counts in an array of their own, since every step looks through them.)
 pub struct Channel {
-    pub bodies: [u32; CHANNEL_ROOM],
-    pub kinds: [u8; CHANNEL_ROOM],
+    pub bodies: [u32; PLACES],
+    pub kinds: [u8; PLACES],
     pub count: u8,
 }
 

@@ -1,8 +1,8 @@
 // What a store holds, by the rules of its form: its line, the words of processes, and what channels held.
 use crate::form;
 use crate::form::Form;
-use model::CHANNEL_ROOM;
 use model::Channel;
+use model::PLACES;
 use model::Receipt;
 use rules::channel;
 use rules::layout;
@@ -94,9 +94,9 @@ pub fn channel(form: Form, store: &[u32], channel: u8) -> Channel
     if (layout::CHANNEL_PLACES as u32) < n {
         return channel::empty();
     }
-    let mut bodies = [0; CHANNEL_ROOM];
+    let mut bodies = [0; PLACES];
     let mut i = 0;
-    while i < CHANNEL_ROOM {
+    while i < PLACES {
         bodies[i] = store[at + 1 + i];
         i += 1;
     }

@@ -109,7 +109,7 @@ fn channels(topology: Topology, store: &[u32]) -> Filled
     while c < topology.channels {
         let held = reading::channel(Form::Present, store, c);
         places[c as usize] = channel::places(held);
-        lengths[c as usize] = held.count;
+        lengths[c as usize] = channel::used(held);
         c += 1;
     }
     Filled { places, lengths }

@@ -13,15 +13,15 @@ ghost use Rattle.model.specs.State.{noPlaces, emptyChannel};
 pub const ROOM: u8 = 8;
 
 // How many places its arrays have, as a count.
-const PLACES: u8 = model::CHANNEL_ROOM as u8;
+const PLACES: u8 = model::PLACES as u8;
 
 // Places with nothing in them, and a channel with no entry.
 pub fn blank() -> Places
     ensures { λ r. ⌜ r ≡ noPlaces ⌝ }
 {
     Places {
-        bodies: [0; model::CHANNEL_ROOM],
-        kinds: [0; model::CHANNEL_ROOM],
+        bodies: [0; model::PLACES],
+        kinds: [0; model::PLACES],
     }
 }
 

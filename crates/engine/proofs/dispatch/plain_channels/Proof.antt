@@ -67,15 +67,16 @@ plain-requires c κs =
 
 loop-again : tie.Need-loop-again Inv-loop μ-loop
 loop-again c =
-    let made = c .before in
+    let parted = c .before in
+    let made = parted .before in
     let read = made .before in
     let t = read .before .before .before in
     let inv = here t .loop .inv in (
       omega arith,
       simp length-set (inv .1),
       simp length-set (inv .2),
-      channel-set (here t .loop .state) (i t) (in-places t) (in-lengths t) (made .plain .result) (c .places .result)
-          (c .places .ensures)
+      channel-set (here t .loop .state) (i t) (in-places t) (in-lengths t) (made .plain .result) (parted .places .result)
+          (c .used .result) (parted .places .ensures) (c .used .ensures)
           ∙ plain-to-more _ (view (here t .loop .state)) (i t) (inv .3) _
           (made .plain .ensures
           ∙ ap (λ (es : List Entry). messages false (bodies es))
@@ -97,5 +98,6 @@ plain-channels-spec =
     tie.close
     (tie.spec Inv-loop μ-loop loop-holds (λ c. omega (arith, below c)) (λ c. omega (arith, below c)) (λ c. below c)
     (λ c. below (c .before)) (λ c κs. search needs) plain-requires (λ c κs. search needs)
-    (λ c. omega (arith, below (turning c))) (λ c. below (turning c)) (λ c. below (turning c))
-    (λ c. omega (arith, below (turning c))) (λ c. omega arith) loop-again returns)
+    (λ c. omega (arith, below (turning c))) (λ c. below (turning c)) (λ c κs. search needs)
+    (λ c. below (turning (c .before))) (λ c. omega (arith, below (turning (c .before)))) (λ c. omega arith) loop-again
+    returns)

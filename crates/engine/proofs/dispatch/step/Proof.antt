@@ -171,8 +171,9 @@ written-back j =
     (λ w. ap view (w .2)
     ∙ put-marks (s k) (sizes k) (place k) (inside k) (x k) _ (came t) (changed b) (w .0 .taken) _
     (w .1 .ensures))
-    (λ w. ap view (w .2)
-    ∙ put-plain (s k) (sizes k) (place k) (inside k) (x k) _ (came t) (changed b) (w .0 .left) _ (w .1 .ensures))
+    (λ w. ap view (w .3)
+    ∙ put-plain (s k) (sizes k) (place k) (inside k) (x k) _ (came t) (changed b) (w .0 .left) _ _ (w .1 .ensures)
+    (w .2 .ensures))
     (j .if2 .came)
 
 accepted : tie.Need-returns-3
@@ -236,10 +237,10 @@ step-spec =
     let index-channels : tie.Need-channel-count-requires = λ c κs. inside (counted (c .before)) .channel in
     let offset-channel : tie.Need-mul-t55 = λ c. omega (arith, inside (putting c) .channel) in
     let index-channel : tie.Need-element-set-from-state = λ c. inside (putting c) .channel in
-    let index-length : tie.Need-element-write-state-2 = λ c. inside (putting c) .channel in
+    let index-length : tie.Need-element-write-state-2 = λ c. inside (putting (c .before)) .channel in
     tie.close
     (tie.spec (λ c κs. search needs) (λ c. search needs) (λ c. search needs) (λ c κs. search needs) refused
     cast-channel cast-process offset-places index-places index-lengths (λ c κs. search needs) offset-words index-words
     index-tags read-requires turn-requires (λ c κs. search needs) same-length stopped offset-word index-word index-tag
     index-logical index-closed index-sent index-messages index-channels plain-channels-requires (λ c κs. search needs)
-    offset-channel index-channel index-length (λ c κs. search needs) same-length-2 accepted)
+    offset-channel index-channel (λ c κs. search needs) index-length (λ c κs. search needs) same-length-2 accepted)

@@ -7,7 +7,7 @@ use borrow.Author.Needs.{needs}
 use native.Mathlib.Omega.{arith}
 use Prim.Native.Nat.{ℕ, _+_, _-_, _<_, _≤_}
 use mathlib.Core.Path.{_≡_, refl, _∙_}
-use Rattle.model.specs.Channel.{channelRoom, entryAt}
+use Rattle.model.specs.Channel.{arrayPlaces, entryAt}
 use Rattle.model.proofs.laws.ChannelLaws.{written, at-written, at-other, entries-rest}
 use Rattle.engine.proofs.entries.pop.Statement.{statement}
 use Rattle.engine.proofs.entries.pop.Tie as tie
@@ -28,8 +28,8 @@ moved c r i lk lb h j l = go (indices j i)
 abbrev Inv-loop : tie.InvT-loop
 Inv-loop c r₀ last i₀ r i =
     (i ≤ last)
-    × (length (r .kinds) ≡ channelRoom)
-    × (length (r .bodies) ≡ channelRoom)
+    × (length (r .kinds) ≡ arrayPlaces)
+    × (length (r .bodies) ≡ arrayPlaces)
     × ((j : ℕ) → j < i → entryAt r j ≡ entryAt c (j + 1))
 
 abbrev μ-loop : tie.MeasureT-loop

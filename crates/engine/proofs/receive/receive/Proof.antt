@@ -5,6 +5,7 @@ use mathlib.Core.Path.{_≡_, sym, _∙_}
 use mathlib.Core.Bool.{false}
 use Rattle.model.specs.declared.Step.the-variants.{Receive}
 use Rattle.model.specs.declared.Entry.{Entry}
+use Rattle.model.proofs.laws.ChannelLaws.{entries-count}
 use Rattle.engine.specs.declared.spot.Spot.{Spot}
 use Rattle.engine.specs.Receiving.{Fits, fullFor}
 use Rattle.engine.proofs.Turning.{Passes, turns-refused, turns-lost}
@@ -41,13 +42,15 @@ module _ (p : tie.After-react) where
   decided : Decided s entry (p .react .result)
   decided =
       record {
-        there = omega (arith, there .if1 .left);
+        there = omega (arith, there .if1 .left, there .before .length .ensures, entries-count (s .held));
         entry = p .before .before .before .entry-at .ensures;
         reaction = rw (p .before .receiver .ensures) at (p .react .ensures);
       }
 
 channel-empty : tie.Need-returns
-channel-empty c = turns-refused _ _ _ _ _ (λ g v. empty _ g v (c .before .if1 .taken)) (c .refused .ensures)
+channel-empty c =
+    let t = c .before in
+    turns-refused _ _ _ _ _ (λ g v. empty _ g v (sym (t .before .length .ensures) ∙ t .if1 .taken)) (c .refused .ensures)
 
 marker-on-closed : tie.Need-returns-2
 marker-on-closed c =
@@ -100,7 +103,7 @@ pub receive-spec : {M : Type 1} → statement M
 receive-spec =
     tie.close
     (tie.spec
-    (λ c κs. search needs) channel-empty
+    (λ c κs. search needs) (λ c κs. search needs) channel-empty
     (λ c κs. search needs) (λ c κs. search needs) (λ c κs. search needs)
     (λ c κs. search needs) marker-on-closed
     (λ c κs. search needs) (λ c κs. search needs) log-full

@@ -14,7 +14,7 @@ use Rattle.model.specs.Notation.{tabulate}
 use Rattle.model.specs.State.{noPlaces, emptyChannel}
 use Rattle.model.specs.Form.{Form, Log, cell, channelLog, countCell, logged, bodiesBy, entriesBy}
 use Rattle.model.specs.Recover.{storedLine}
-use Rattle.model.specs.Channel.{channelRoom, entries, messages}
+use Rattle.model.specs.Channel.{arrayPlaces, entries, messages}
 use Rattle.model.proofs.laws.Functions.{seen-replicate, filledBelow, filled-none, filled-more}
 use Rattle.model.proofs.laws.ChannelLaws.{entries-messages}
 use Rattle.model.proofs.store.Readable.{bodies-are}
@@ -26,10 +26,10 @@ use Rattle.reading.proofs.log.channel.Tie as tie
 -- the bodies of the log are in their places, up to the i-th
 abbrev Inv-loop : tie.InvT-loop
 Inv-loop store channel at n bodies₀ i₀ bodies i =
-    (length bodies ≡ channelRoom) × ((λ (j : ℕ). getD bodies j 0) ≡ filledBelow i (λ j. cell store (at + 1 + j)) 0)
+    (length bodies ≡ arrayPlaces) × ((λ (j : ℕ). getD bodies j 0) ≡ filledBelow i (λ j. cell store (at + 1 + j)) 0)
 
 abbrev μ-loop : tie.MeasureT-loop
-μ-loop store channel at n bodies₀ i₀ bodies i = channelRoom - i
+μ-loop store channel at n bodies₀ i₀ bodies i = arrayPlaces - i
 
 -- the log that is read, and where
 module _ (q : tie.After-channel-count-cell Inv-loop μ-loop) where
@@ -92,9 +92,9 @@ loop-again c =
     )
 
 -- its places are all of a message tagged 0
-plain-kinds : (p : Places) → p ≡ noPlaces → (j : ℕ) → j < channelRoom → getD (p .kinds) j 0 ≡ 0
+plain-kinds : (p : Places) → p ≡ noPlaces → (j : ℕ) → j < arrayPlaces → getD (p .kinds) j 0 ≡ 0
 unfolding noPlaces
-plain-kinds p e j h = rw e (getD-replicate channelRoom j 0 0 h)
+plain-kinds p e j h = rw e (getD-replicate arrayPlaces j 0 0 h)
 
 returns-3 : tie.Need-returns-3 Inv-loop μ-loop
 unfolding cell logged bodiesBy entriesBy
@@ -120,7 +120,7 @@ channel-spec =
     returns
     (λ c. search needs) (λ c. omega arith) (λ c. omega arith) (λ c κs. search needs)
     returns-2
-    (λ c. (refl, seen-replicate channelRoom 0 ∙ filled-none _ 0))
+    (λ c. (refl, seen-replicate arrayPlaces 0 ∙ filled-none _ 0))
     (λ c. omega (arith, fits c))
     (λ c. omega (arith, fits c))
     (λ c. omega (arith, fits c))

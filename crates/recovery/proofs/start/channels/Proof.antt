@@ -1,7 +1,7 @@
 -- `recovery::start::channels` meets its contract. The loop's invariant: the first c channels are filled, and the others
 -- are empty.
 use Prim.Native.Nat.{ℕ, _-_, _<_, _≤_}
-use mathlib.Core.Path.{_≡_, refl, ap, _∙_}
+use mathlib.Core.Path.{_≡_, refl, ap₂, _∙_}
 use mathlib.Core.List.{[]}
 use borrow.Author.Needs.{needs}
 use native.Mathlib.Omega.{arith}
@@ -47,18 +47,19 @@ loop-holds c =
 
 loop-again : tie.Need-loop-again Inv-loop μ-loop
 loop-again c =
-    let x = c .before .channel2 in
-    let t = c .before .before in
+    let parted = c .before in
+    let x = parted .before .channel2 in
+    let t = parted .before .before in
     let l = t .before .before .loop in
     let a = start t .args in
-    let filled : entries (held (c .places2 .result) (x .result .count)) ≡ channelOf (a .store .now) (at t) =
-    ap (λ (p : Places). entries (held p (x .result .count))) (c .places2 .ensures)
+    let filled : entries (held (parted .places2 .result) (c .used .result)) ≡ channelOf (a .store .now) (at t) =
+    ap₂ (λ (p : Places) (n : ℕ). entries (held p n)) (parted .places2 .ensures) (c .used .ensures)
     ∙ channel-given _ (a .topology) _ (start t .pre) _ (t .if1 .taken) (x .ensures) in (
       omega arith,
       simp length-set (l .inv .1),
       simp length-set (l .inv .2),
-      filled-both (λ (p : Places) (n : ℕ). entries (held p n)) (l .places) (l .lengths) noPlaces (c .places2 .result) 0
-          (x .result .count) (at t) (channelOf (a .store .now)) [] (omega (arith, l .inv .1, inside t))
+      filled-both (λ (p : Places) (n : ℕ). entries (held p n)) (l .places) (l .lengths) noPlaces (parted .places2 .result) 0
+          (c .used .result) (at t) (channelOf (a .store .now)) [] (omega (arith, l .inv .1, inside t))
           (omega (arith, l .inv .2, inside t)) (l .inv .3) filled,
     )
 
@@ -79,8 +80,8 @@ channels-spec =
     loop-holds
     (λ c κs. search needs) (λ c κs. search needs) (λ c. search needs) (λ c. search needs)
     (λ c. omega (arith, inside (c .before .before)))
-    (λ c. search needs)
-    (λ c. omega (arith, inside (c .before .before)))
+    (λ c κs. search needs) (λ c. search needs)
+    (λ c. omega (arith, inside (c .before .before .before)))
     (λ c. search needs) (λ c. search needs)
     loop-again
     returns)
