@@ -1,5 +1,6 @@
-// A channel (document 01's wire) by value: what it is made of, its entries, and how much room is left. Other crates
-// read a channel through here alone; the engine's entries write its places.
+// A channel (document 01's wire) by value: what it is made of, its entries, and how much room is left. What a place's
+// kind means is said here alone; beside this module only the engine's entries, which put entries into places and move
+// them, know how a channel lies in its arrays.
 use model::Channel;
 use model::Entry;
 use model::Places;
@@ -8,6 +9,13 @@ ghost use lib.ListN.{length};
 ghost use Rattle.model.specs.Channel.{held, placesOf, entryOf, entryAt, entries};
 ghost use Rattle.model.specs.Channel.{roomLeft, noRoomForMessage, noRoomForMarker};
 ghost use Rattle.model.specs.State.{noPlaces, emptyChannel};
+
+// The kinds of a place: a message with tag 0, one with tag 1, and a marker (document 01's note), as every other kind is.
+pub const PLAIN: u8 = 0;
+
+pub const TAGGED: u8 = 1;
+
+pub const MARKER: u8 = 2;
 
 // How many entries a channel has room for, by the rules.
 pub const ROOM: u8 = 8;
@@ -63,8 +71,8 @@ fn entry_of(kind: u8, body: u32) -> Entry
     ensures { λ r. ⌜ r ≡ entryOf kind body ⌝ }
 {
     match kind {
-        0 => Entry::Message { body, tag: false },
-        1 => Entry::Message { body, tag: true },
+        PLAIN => Entry::Message { body, tag: false },
+        TAGGED => Entry::Message { body, tag: true },
         _ => Entry::Marker,
     }
 }
@@ -74,7 +82,7 @@ pub fn entry_at(c: Channel, i: u8) -> Entry
     ensures { λ r. ⌜ r ≡ entryAt c i ⌝ }
 {
     if PLACES <= i {
-        return entry_of(0, 0);
+        return entry_of(PLAIN, 0);
     }
     let at = i as usize;
     entry_of(c.kinds[at], c.bodies[at])
@@ -102,7 +110,8 @@ pub fn room(c: Channel) -> u8
 pub fn no_room_for_message(c: Channel) -> bool
     ensures { λ r. ⌜ r ≡ noRoomForMessage (entries c) ⌝ }
 {
-    room(c) == 0
+    let left = room(c);
+    left == 0
 }
 
 pub fn no_room_for_marker(c: Channel) -> bool

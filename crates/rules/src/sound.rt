@@ -70,7 +70,7 @@ fn line_sound(round: Round) -> bool
     phase::is_idle(phase) || round.line != phase::LAST_LINE
 }
 
-// Whether a state, any whatever, is sound: each clause of the definition by itself, none of them left early.
+// Whether a state, any whatever, is sound: each clause of the definition by itself, and no loop of them left early.
 pub fn sound(s: State) -> bool
     ensures { λ r. ⌜ r ≡ sound (view s) ⌝ }
 {

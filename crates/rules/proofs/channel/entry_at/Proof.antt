@@ -2,20 +2,16 @@
 use borrow.Author.Needs.{needs}
 use native.Mathlib.Omega.{arith}
 use mathlib.Core.Path.{_≡_}
-use Prim.Native.Nat.{ℕ}
 use lib.ListN.{length, List·getD-eq-default}
+use Rattle.model.specs.Channel.{arrayPlaces}
 use Rattle.rules.proofs.channel.entry_at.Statement.{statement}
 use Rattle.rules.proofs.channel.entry_at.Tie as tie
-
--- how many places the arrays have
-abbrev places : ℕ
-places = 8
 
 past : tie.Need-returns
 past c =
     let a = c .before .before .args in
-    let kinds : length (a .t1 .kinds) ≡ places = search needs in
-    let bodies : length (a .t1 .bodies) ≡ places = search needs in
+    let kinds : length (a .t1 .kinds) ≡ arrayPlaces = search needs in
+    let bodies : length (a .t1 .bodies) ≡ arrayPlaces = search needs in
     rw (
       List·getD-eq-default (a .t1 .kinds) 0 {n = a .i} (omega arith),
       List·getD-eq-default (a .t1 .bodies) 0 {n = a .i} (omega arith),
