@@ -15,7 +15,7 @@ fn carry(topology: Topology, from: Form, source: &[u32], to: Form, target: &mut 
     ensures { λ r. ⌜ Carries (carry (formOf from) (formOf to) topology (now (source .entry)) (now (target .entry)))
         r (now (target .exit)) ⌝ }
 {
-    let found = reading::admit(topology, from, source);
+    let found = reading::admit_store(topology, from, source);
     let verdict = reading::long_enough(found, to, target.len());
     if let Verdict::Pass = verdict {
         destination::write(topology, from, source, to, target);

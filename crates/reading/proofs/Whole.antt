@@ -15,9 +15,11 @@ use Rattle.model.specs.Form.{Form, Log, messageLog, channelLog, cell, places, e
 use Rattle.model.specs.Recover.{storedLine, recoverRefusal, restored}
 use Rattle.model.proofs.laws.Tests.{and-both, and-false}
 use Rattle.model.proofs.laws.TopologyLaws.{Planned}
+use Rattle.model.specs.Topology.{processLimit, channelLimit}
+use Rattle.model.proofs.store.Sizes.{Sized}
 use Rattle.model.proofs.store.Addresses.{in-store, log-within}
 use Rattle.model.proofs.store.Readable.{Readable, readable}
-use Rattle.reading.specs.Source.{whole, wordRead, channelRead}
+use Rattle.reading.specs.Source.{possible, whole, wordRead, channelRead}
 
 -- the cell of its count, and that of its last place
 abbrev count : Form → List ℕ → Log → ℕ
@@ -27,24 +29,37 @@ abbrev last : Form → List ℕ → Log → ℕ
 last F st log = count F st log + entryCells F log * places log
 
 module _ (F : Form) (st : List ℕ) (log : Log) where
+  pub none-such : possible log ≡ false → whole F st log ≡ false
+  unfolding whole
+  none-such h = rw h
+
   pub beyond : length st ≤ last F st log → whole F st log ≡ false
   unfolding whole
-  beyond h = rw (le-ltb (last F st log) (length st) h)
+  beyond h = rw (le-ltb (last F st log) (length st) h) (and-false (possible log))
 
   pub over : places log < cell st (count F st log) → whole F st log ≡ false
   unfolding whole
-  over h = rw (lt-leb (cell st (count F st log)) (places log) h) (and-false (ltb (last F st log) (length st)))
+  over h =
+      rw (lt-leb (cell st (count F st log)) (places log) h, and-false (ltb (last F st log) (length st)))
+      (and-false (possible log))
 
-  pub within : last F st log < length st → cell st (count F st log) ≤ places log → whole F st log ≡ true
+  pub within : possible log ≡ true → last F st log < length st → cell st (count F st log) ≤ places log → whole F st log ≡ true
   unfolding whole
-  within h l =
-      and-both _ _ (lt-ltb (last F st log) (length st) h) (le-leb (cell st (count F st log)) (places log) l)
+  within so h l =
+      and-both _ _ so
+      (and-both _ _ (lt-ltb (last F st log) (length st) h) (le-leb (cell st (count F st log)) (places log) l))
+
+-- a planned log is a possible one
+planned-possible : {F : Form} {T : Topology} {st : List ℕ} → Sized F T st → (log : Log) → Planned T log
+    → possible log ≡ true
+planned-possible z (messageLog p) l = lt-ltb p processLimit (omega (arith, l, z .processes))
+planned-possible z (channelLog c) l = lt-ltb c channelLimit (omega (arith, l, z .channels))
 
 pub planned-whole : (F : Form) (T : Topology) (st : List ℕ) → recoverRefusal F T st ≡ none → (log : Log)
     → Planned T log → whole F st log ≡ true
 planned-whole F T st e log planned =
     let r = readable F T st e in
-    within F st log
+    within F st log (planned-possible (r .sized) log planned)
     (in-store (r .sized) (storedLine st) _
     (log-within (r .sized) (storedLine st) log _ planned (record { from = omega arith; to = omega arith })))
     (r .fits log planned)

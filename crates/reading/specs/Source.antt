@@ -9,6 +9,7 @@ use lib.Dec.{leb, ltb}
 use Rattle.model.specs.declared.Entry.{Entry}
 use Rattle.model.specs.Check.{_gives_, firstRefusal}
 use Rattle.model.specs.Word.{replayBy}
+use Rattle.model.specs.Topology.{processLimit, channelLimit}
 use Rattle.model.specs.Channel.{messages}
 use Rattle.model.specs.Form as model
 use Rattle.model.specs.Form.{cell, messagePlaces, channelEntryCells, entriesFrom, receiptIn, bodyIn, logged}
@@ -32,14 +33,21 @@ pub record Small (n r : ℕ) : Type 0 where
 abbrev pub lengthRefusal : Option ℕ → model.Form → ℕ → Option ℕ
 lengthRefusal found F cells = orElse found (firstRefusal ((ltb cells (model.storeCells F) gives 6) ∷ []))
 
+-- whether there can be such a log: a plan has at most 16 processes and 64 channels
+abbrev pub possible : Log → Bool
+possible (messageLog p) = ltb p processLimit
+possible (channelLog c) = ltb c channelLimit
+
 -- whether a log of the store's line is in the store with all of its places, and has no more entries than these
 unfoldable pub whole : model.Form → List ℕ → Log → Bool
 whole F store log =
-    ltb (countCell F (storedLine store) log + entryCells F log * places log) (length store)
-    && leb (cell store (countCell F (storedLine store) log)) (places log)
+    possible log
+    && (ltb (countCell F (storedLine store) log + entryCells F log * places log) (length store)
+    && leb (cell store (countCell F (storedLine store) log)) (places log))
 
--- What is read of process p and of channel c, in any store: what a restart by the form's rules gives them where their
--- log is whole, as every planned one is in a store that isn't refused; 0 and nothing where it isn't.
+-- What is read of process p and of channel c, in any store: where their log is whole, what a restart by the form's rules
+-- gives them if they are planned; 0 and nothing where it isn't. In a store that a restart takes, every planned log is
+-- whole (proofs/Whole.antt).
 abbrev pub wordRead : model.Form → List ℕ → ℕ → ℕ
 wordRead F store p = cond (whole F store (messageLog p)) (restored F store (storedLine store) p) 0
 

@@ -7,6 +7,6 @@ mod refusals;
 pub use log::channel;
 pub use log::line;
 pub use log::word;
-pub use refusals::admit;
 pub use refusals::admit_cells;
+pub use refusals::admit_store;
 pub use refusals::long_enough;

@@ -1,8 +1,10 @@
 // What a store holds, by the rules of its form: its line, the words of processes, and what channels held.
 use crate::form;
 use crate::form::Form;
+use model::CHANNELS;
 use model::Channel;
 use model::PLACES;
+use model::PROCESSES;
 use model::Receipt;
 use rules::channel;
 use rules::layout;
@@ -67,10 +69,14 @@ fn replayed(form: Form, store: &[u32], at: usize) -> u32
     word
 }
 
-// The word of a process at the store's line; 0 where its record isn't in the store, or its log over its places.
+// The word of a process at the store's line; 0 where there can be none such, its record isn't in the store, or its log
+// is over its places.
 pub fn word(form: Form, store: &[u32], process: u8) -> u32
     ensures { λ r. ⌜ r ≡ wordRead (formOf form) (now (store .entry)) process ⌝ }
 {
+    if PROCESSES <= process as usize {
+        return 0;
+    }
     let at = form::physical_cell(form, line(store), process);
     if store.len() < at + form::process_cells(form) {
         return 0;
@@ -81,11 +87,15 @@ pub fn word(form: Form, store: &[u32], process: u8) -> u32
     replayed(form, store, at)
 }
 
-// A channel at the store's line, as messages tagged 0; empty where its record isn't in the store, or its log over its
-// places. All places are filled: nobody sees one past the count, and a number of turns that is known costs less.
+// A channel at the store's line, as messages tagged 0; empty where there can be none such, its record isn't in the
+// store, or its log is over its places. Open are the places past its length: all of the log's are copied, since a number
+// of turns that is known costs less.
 pub fn channel(form: Form, store: &[u32], channel: u8) -> Channel
     ensures { λ r. ⌜ entries r ≡ channelRead (formOf form) (now (store .entry)) channel ⌝ }
 {
+    if CHANNELS <= channel as usize {
+        return channel::empty();
+    }
     let at = form::channel_count_cell(form, line(store), channel);
     if store.len() < at + layout::CHANNEL_CELLS {
         return channel::empty();
@@ -96,7 +106,7 @@ pub fn channel(form: Form, store: &[u32], channel: u8) -> Channel
     }
     let mut bodies = [0; PLACES];
     let mut i = 0;
-    while i < PLACES {
+    while i < layout::CHANNEL_PLACES as usize {
         bodies[i] = store[at + 1 + i];
         i += 1;
     }

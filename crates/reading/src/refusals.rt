@@ -64,7 +64,7 @@ fn counts_fit(topology: Topology, form: Form, store: &[u32]) -> bool
 }
 
 // Refusals 1 to 6, then 16.
-pub fn admit(topology: Topology, form: Form, store: &[u32]) -> Verdict
+pub fn admit_store(topology: Topology, form: Form, store: &[u32]) -> Verdict
     ensures { λ r. ⌜ refusalOf r ≡ recoverRefusal (formOf form) topology (now (store .entry)) ⌝ }
 {
     match admit_cells(topology, form, store.len()) {

@@ -119,7 +119,7 @@ fn channels(topology: Topology, store: &[u32]) -> Filled
 pub fn recover(topology: Topology, store: &[u32]) -> Started
     ensures { λ r. ⌜ Starts (recover topology (now (store .entry))) r (now (store .entry)) ⌝ }
 {
-    match reading::admit(topology, Form::Present, store) {
+    match reading::admit_store(topology, Form::Present, store) {
         Verdict::Pass => {
             let words = words(topology, store);
             let filled = channels(topology, store);

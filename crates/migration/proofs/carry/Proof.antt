@@ -18,7 +18,7 @@ unfolding carryRefusal
 said c =
     let a = c .before .before .before .before .args in
     c .long-enough .ensures
-    ∙ ap (λ found. lengthRefusal found (formOf (a .to)) (length (a .target .now))) (c .before .admit .ensures)
+    ∙ ap (λ found. lengthRefusal found (formOf (a .to)) (length (a .target .now))) (c .before .admit-store .ensures)
 
 write-requires : tie.Need-write-requires
 unfolding refusalOf

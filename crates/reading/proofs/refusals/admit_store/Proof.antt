@@ -1,12 +1,12 @@
--- `refusals::admit` meets its contract: 1 to 6 where they refuse, else 16.
+-- `refusals::admit_store` meets its contract: 1 to 6 where they refuse, else 16.
 use mathlib.Core.Path.{sym, ap, _∙_}
 use mathlib.Core.Option.{orElse}
 use borrow.Author.Needs.{needs}
 use Rattle.model.specs.Check.{firstRefusal}
 use Rattle.model.specs.Outcome.{refusalOf}
 use Rattle.model.specs.Recover.{recoverRefusal}
-use Rattle.reading.proofs.refusals.admit.Statement.{statement}
-use Rattle.reading.proofs.refusals.admit.Tie as tie
+use Rattle.reading.proofs.refusals.admit_store.Statement.{statement}
+use Rattle.reading.proofs.refusals.admit_store.Tie as tie
 
 counts-fit-requires : tie.Need-counts-fit-requires
 unfolding refusalOf
@@ -38,8 +38,8 @@ returns-3 : tie.Need-returns-3
 unfolding refusalOf recoverRefusal orElse
 returns-3 c = rw (← (c .before .before .before .admit-cells .ensures), c .before .r .given .1)
 
-pub admit-spec : {M : Type 1} → statement M
-admit-spec =
+pub admit-store-spec : {M : Type 1} → statement M
+admit-store-spec =
     tie.close
     (tie.spec
     (λ c κs. search needs) (λ c. search needs)

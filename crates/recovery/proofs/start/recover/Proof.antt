@@ -13,7 +13,7 @@ use Rattle.recovery.proofs.start.recover.Tie as tie
 ready : (c : tie.After-enum-told)
     → let a = c .before .before .before .before .args in recoverRefusal (a .topology) (a .store .now) ≡ none
 unfolding refusalOf
-ready c = sym (c .before .before .admit .ensures) ∙ ap refusalOf (c .enum-told .given .1)
+ready c = sym (c .before .before .admit-store .ensures) ∙ ap refusalOf (c .enum-told .given .1)
 
 returns : tie.Need-returns
 unfolding recovery.recover
@@ -27,7 +27,7 @@ unfolding recovery.recover refusalOf
 returns-2 c =
     let r = c .before .before in
     starts-refused _ _ _ (c .refused .result) _
-    (sym (r .before .before .admit .ensures) ∙ ap refusalOf (r .r .given .1))
+    (sym (r .before .before .admit-store .ensures) ∙ ap refusalOf (r .r .given .1))
     (c .refused .ensures .0) (c .refused .ensures .1)
 
 pub recover-spec : {M : Type 1} → statement M
