@@ -107,7 +107,8 @@ fn recovers<E: Engine>(t: &Topology, times: u32, cells: &[u8]) -> u32 {
         store[3] = turn;
         let _ = engine.recover(t, &store);
         let s = engine.state();
-        sum = fold(fold(sum, s.words[0]), s.channels[63].bodies[7]);
+        let last = &s.channels[63];
+        sum = fold(fold(sum, s.words[0]), if last.count > 7 { last.bodies[7] } else { 0 });
     }
     checksum(sum, engine.state(), &store)
 }

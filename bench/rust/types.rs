@@ -1,4 +1,5 @@
-//! The types that both Rust programs share: those of crates/model, field by field, laid out as Rattle lays them out.
+//! The types that both Rust programs share: those of crates/model, laid out as Rattle lays them out, but that a channel
+//! keeps its own length, as one would write it.
 
 pub const PROCESSES: usize = 16;
 pub const CHANNELS: usize = 64;

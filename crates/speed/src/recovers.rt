@@ -1,8 +1,10 @@
 // Work 2: recovers of one store, a cell of which changes each time.
 use crate::input::cells;
+use crate::sum::body_at;
 use crate::sum::fold;
 use crate::sum::whole_sum;
 use model::Topology;
+use rules::channel;
 use rules::layout::STORE_CELLS;
 
 pub fn run(topology: Topology, times: u32, bytes: &[u8]) -> u32 {
@@ -17,8 +19,8 @@ pub fn run(topology: Topology, times: u32, bytes: &[u8]) -> u32 {
         i += 1;
         let again = recovery::recover(topology, &store);
         state = again.state;
-        let last = state.places[63];
-        sum = fold(fold(sum, state.words[0]), last.bodies[7]);
+        let last = channel::held(state.places[63], state.lengths[63]);
+        sum = fold(fold(sum, state.words[0]), body_at(last, 7));
     }
     whole_sum(sum, state, &store)
 }

@@ -44,6 +44,17 @@ fn entry_sum(sum: u32, e: Entry) -> u32 {
     }
 }
 
+// The body of the entry in a place, 0 where there is none.
+pub fn body_at(c: model::Channel, i: u8) -> u32 {
+    if channel::length(c) <= i {
+        return 0;
+    }
+    match channel::entry_at(c, i) {
+        Entry::Message { body, tag: _ } => body,
+        Entry::Marker => 0,
+    }
+}
+
 fn channel_sum(sum: u32, c: model::Channel) -> u32 {
     let entries = channel::length(c);
     let mut r = fold(sum, entries as u32);
