@@ -45,7 +45,7 @@ pub struct Places {
 }
 
 // A channel by value: its places, and how many are used. Places from count on are unused. (A state has its channels'
-// counts in an array of their own, since every step looks through them.)
+// lengths in an array of their own, since every step looks through them.)
 pub struct Channel {
     pub bodies: [u32; PLACES],
     pub kinds: [u8; PLACES],
