@@ -49,7 +49,7 @@ seen-rewritten {A} n z back l i x e h q = ap {B = ℕ → A} (λ (k : List A) (j
 
 -- the arrays that the code rewrites, each by the turn r
 pub record Rewritten (s : State) (l : Place) (r : Turn) (t : List Bool) (f : Flags) (k : Counts) : Type 0 where
-  pub tags : t ≡ rewritten processLimit false (r .reset .marks) (s .tags) (l .process) (r .spot .tag)
+  pub tags : t ≡ rewritten processLimit false (r .reset .tags) (s .tags) (l .process) (r .spot .tag)
   pub logical : f .logical
       ≡ rewritten processLimit false (r .reset .flags) (s .flags .logical) (l .process) (r .spot .logical)
   pub closed : f .closed
@@ -133,7 +133,7 @@ module _ (s : State) (n : Lengths s) (l : Place) (w : Within (s .topology) l) (x
 
     tags : _≡_ {A = ℕ → Bool} (λ i. getD t i false) (back .tag)
     unfolding putBack view
-    tags = of-processes false (r .reset .marks) (s .tags) (r .spot .tag) (n .tags) (a .tags)
+    tags = of-processes false (r .reset .tags) (s .tags) (r .spot .tag) (n .tags) (a .tags)
 
     progress : viewProgress f ≡ back .progress
     unfolding putBack view viewProgress
@@ -156,7 +156,7 @@ module _ (s : State) (n : Lengths s) (l : Place) (w : Within (s .topology) l) (x
         })
         ∙ counts-parts z _ _
 
-    pub put-plain : r .reset .marks ≡ false → (places : Places) (used : ℕ) → places ≡ placesOf (r .spot .held)
+    pub put-plain : r .reset .tags ≡ false → (places : Places) (used : ℕ) → places ≡ placesOf (r .spot .held)
         → used ≡ r .spot .held .count
         → view (written (set (s .places) (l .channel) places) (set (s .lengths) (l .channel) used)) ≡ back
     unfolding putBack view
@@ -168,13 +168,13 @@ module _ (s : State) (n : Lengths s) (l : Place) (w : Within (s .topology) l) (x
         progress counts
 
     -- the planned channels with their messages alone
-    pub put-marks : r .reset .marks ≡ true → (now : State)
+    pub put-tags : r .reset .tags ≡ true → (now : State)
         → view now
         ≡ withChannel (plainChannels (view (written (s .places) (s .lengths))))
         (view (written (s .places) (s .lengths)))
         → view now ≡ back
     unfolding putBack view withChannel plainChannels
-    put-marks m now h = h ∙ same-state refl refl words tags (rw m) progress counts
+    put-tags m now h = h ∙ same-state refl refl words tags (rw m) progress counts
 
 -- the answer of the code, by the turn
 module _ (s : State) (x : Step) (before : List ℕ) (budget : ℕ) {l : Place} (d : Admitted s x (length before) l)

@@ -127,9 +127,9 @@ putBack s r g =
       topology = g .topology;
       round = r .spot .round;
       word = upd (g .word) (s .process) (r .spot .word);
-      tag = cond (r .reset .marks) (λ p. false) (upd (g .tag) (s .process) (r .spot .tag));
+      tag = cond (r .reset .tags) (λ p. false) (upd (g .tag) (s .process) (r .spot .tag));
       channel =
-          cond (r .reset .marks) (plainChannels g) (upd (g .channel) (s .channel) (entries (r .spot .held)));
+          cond (r .reset .tags) (plainChannels g) (upd (g .channel) (s .channel) (entries (r .spot .held)));
       progress =
           cond (r .reset .flags) noProgress
           (record {
@@ -212,7 +212,7 @@ abbrev pub answerOf : Turn → State → Answer
 answerOf r s = record { outcome = r .outcome; made = r .made; state = s }
 
 abbrev pub nothing : Reset
-nothing = record { counts = false; flags = false; marks = false }
+nothing = record { counts = false; flags = false; tags = false }
 
 abbrev pub stopping : Outcome → ℕ → Spot → Turn
 stopping o n s = record { went = false; outcome = o; made = n; spot = s; reset = nothing }

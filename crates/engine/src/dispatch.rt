@@ -118,13 +118,13 @@ pub fn step(mut state: State, step: Step, store: &mut [u32], budget: u32) -> Ans
     let next = new.round;
     state.round = next;
     state.words[p] = new.word;
-    write::process_flag(&mut state.tags, reset.marks, p, new.tag);
+    write::process_flag(&mut state.tags, reset.tags, p, new.tag);
     write::process_flag(&mut state.flags.logical, reset.flags, p, new.logical);
     write::channel_flag(&mut state.flags.closed, reset.flags, c, new.closed);
     write::channel_flag(&mut state.flags.sent, reset.flags, c, new.sent);
     write::process_count(&mut state.counts.messages, reset.counts, p, new.in_messages);
     write::channel_count(&mut state.counts.channels, reset.counts, c, new.in_channel);
-    if reset.marks {
+    if reset.tags {
         state = plain_channels(state);
     } else {
         state.places[c] = channel::places(new.held);

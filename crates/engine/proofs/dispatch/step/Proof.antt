@@ -17,7 +17,7 @@ use Rattle.engine.specs.Spots.{Admits, Admitted, Within, Sees, putBack}
 use Rattle.engine.proofs.Lengths.{Lengths, lengths}
 use Rattle.engine.proofs.Placing.{within}
 use Rattle.engine.proofs.Promises.{step-refused}
-use Rattle.engine.proofs.WriteBack.{spotAt, sees, Rewritten, put-plain, put-marks, step-stopped, step-went}
+use Rattle.engine.proofs.WriteBack.{spotAt, sees, Rewritten, put-plain, put-tags, step-stopped, step-went}
 use Rattle.engine.proofs.dispatch.step.Statement.{statement}
 use Rattle.engine.proofs.dispatch.step.Tie as tie
 
@@ -169,7 +169,7 @@ written-back j =
     let k = here t in
     ⊎-elim
     (λ w. ap view (w .2)
-    ∙ put-marks (s k) (sizes k) (place k) (inside k) (x k) _ (came t) (changed b) (w .0 .taken) _
+    ∙ put-tags (s k) (sizes k) (place k) (inside k) (x k) _ (came t) (changed b) (w .0 .taken) _
     (w .1 .ensures))
     (λ w. ap view (w .3)
     ∙ put-plain (s k) (sizes k) (place k) (inside k) (x k) _ (came t) (changed b) (w .0 .left) _ _ (w .1 .ensures)
