@@ -9,7 +9,7 @@ pub mod Aborting
 pub mod Clearing
 pub mod Turning
 pub mod Phases
-pub mod Placing
+pub mod Subjects
 pub mod WriteBack
 pub mod Receptions
 pub mod ReceiveMeets

@@ -28,7 +28,7 @@ use Rattle.model.specs.Outcome as says
 use Rattle.model.proofs.laws.Functions.{upd-unchanged}
 use Rattle.model.proofs.laws.SoundLaws.{sound-facts}
 use Rattle.model.proofs.laws.TopologyLaws.{SizesFit, accepted-sizes}
-use Rattle.engine.specs.declared.spot.Place.{Place}
+use Rattle.engine.specs.declared.spot.Subject.{Subject}
 use Rattle.engine.specs.declared.spot.Spot.{Spot}
 use Rattle.engine.specs.declared.spot.Turn.{Turn}
 use Rattle.engine.specs.Answers.{ownResult}
@@ -36,7 +36,7 @@ use Rattle.engine.specs.Spots.{at, noSuch, sending, receiving, onProcess
 use Rattle.engine.specs.Spots.{Turns, QuietTurn, stopping}
 use Rattle.engine.proofs.Promises.{unbudgeted}
 
--- a place that was found
+-- a subject that was found
 pub record Found (t : Bool) (a b c p : ℕ) : Type 0 where
   pub holds : t ≡ true
   pub channel : a ≡ c
@@ -44,8 +44,8 @@ pub record Found (t : Bool) (a b c p : ℕ) : Type 0 where
 
 pub found : (t : Bool) (a b c p : ℕ) → cond t (at a b) noSuch ≡ at c p → Found t a b c p
 found true a b c p e =
-    let q : _≡_ {A = Place} (record { channel = a; process = b }) (record { channel = c; process = p }) = cc in
-    record { holds = refl; channel = ap (λ (l : Place). l .channel) q; process = ap (λ (l : Place). l .process) q }
+    let q : _≡_ {A = Subject} (record { channel = a; process = b }) (record { channel = c; process = p }) = cc in
+    record { holds = refl; channel = ap (λ (l : Subject). l .channel) q; process = ap (λ (l : Subject). l .process) q }
 found false a b c p e = let z : _≡_ {A = ℕ} 0 1 = cc in absurd (omega arith)
 
 module _ (T : Topology) (n : ℕ) {c p : ℕ} where

@@ -19,19 +19,19 @@ use Rattle.model.specs.Change.{withChannel, plainChannels}
 use Rattle.model.specs.Write.{Answered}
 use Rattle.model.proofs.laws.Tests.{true-is-not-false}
 use Rattle.model.proofs.laws.Functions.{seen-set, seen-replicate}
-use Rattle.engine.specs.declared.spot.Place.{Place}
+use Rattle.engine.specs.declared.spot.Subject.{Subject}
 use Rattle.engine.specs.declared.spot.Admission.the-variants.{At}
 use Rattle.engine.specs.declared.spot.Spot.{Spot}
 use Rattle.engine.specs.declared.spot.Turn.{Turn}
 use Rattle.engine.specs.Answers.{Meets, Answers}
-use Rattle.engine.specs.Spots.{placeOf, Admitted, Within, Sees, Turns, putBack, afterTurn}
+use Rattle.engine.specs.Spots.{subjectOf, Admitted, Within, Sees, Turns, putBack, afterTurn}
 use Rattle.engine.specs.Spots.{spotOf, rewritten, answerOf}
 use Rattle.engine.proofs.Views.{same-state, channel-read, channels-set}
 use Rattle.engine.proofs.Lengths.{Lengths}
 use Rattle.engine.proofs.Promises.{step-own}
 
 -- the spot that the code reads of a state, with the channel that it holds there
-abbrev pub spotAt : State → Step → Place → Channel → Spot
+abbrev pub spotAt : State → Step → Subject → Channel → Spot
 spotAt s x l c =
     spotOf x l (s .topology) (s .round) c (s .flags) (s .counts) (getD (s .words) (l .process) 0)
     (getD (s .tags) (l .process) false)
@@ -48,7 +48,7 @@ seen-rewritten {A} n z back l i x e h q = ap {B = ℕ → A} (λ (k : List A) (j
     go false = seen-set (λ v. v) l i x z (rw e h)
 
 -- the arrays that the code rewrites, each by the turn r
-pub record Rewritten (s : State) (l : Place) (r : Turn) (t : List Bool) (f : Flags) (k : Counts) : Type 0 where
+pub record Rewritten (s : State) (l : Subject) (r : Turn) (t : List Bool) (f : Flags) (k : Counts) : Type 0 where
   pub tags : t ≡ rewritten processLimit false (r .reset .tags) (s .tags) (l .process) (r .spot .tag)
   pub logical : f .logical
       ≡ rewritten processLimit false (r .reset .flags) (s .flags .logical) (l .process) (r .spot .logical)
@@ -76,13 +76,13 @@ unfolding noCounts
 counts-parts true a b = refl
 counts-parts false a b = refl
 
-module _ (s : State) (n : Lengths s) (l : Place) (w : Within (s .topology) l) (x : Step) (c : Channel) where
-  pub sees : placeOf (s .topology) x ≡ At l → (d : Places)
+module _ (s : State) (n : Lengths s) (l : Subject) (w : Within (s .topology) l) (x : Step) (c : Channel) where
+  pub sees : subjectOf (s .topology) x ≡ At l → (d : Places)
       → c ≡ held (getD (s .places) (l .channel) d) (getD (s .lengths) (l .channel) 0) → Sees (view s) x (spotAt s x l c)
   unfolding view viewProgress viewCounts
   sees e d q =
       record {
-        place = e;
+        subject = e;
         processes = refl;
         channels = refl;
         round = refl;
@@ -177,7 +177,7 @@ module _ (s : State) (n : Lengths s) (l : Place) (w : Within (s .topology) l) (x
     put-tags m now h = h ∙ same-state refl refl words tags (rw m) progress counts
 
 -- the answer of the code, by the turn
-module _ (s : State) (x : Step) (before : List ℕ) (budget : ℕ) {l : Place} (d : Admitted s x (length before) l)
+module _ (s : State) (x : Step) (before : List ℕ) (budget : ℕ) {l : Subject} (d : Admitted s x (length before) l)
     {at : Spot} (v : Sees (view s) x at) {q : Spot} (e : q ≡ at) {r : Turn} {after : List ℕ}
     (t : Turns q x before budget r after) where
   turned : (next : State) → view next ≡ afterTurn at r (view s) → (r .went ≡ false → next ≡ s)

@@ -28,7 +28,7 @@ use Rattle.model.specs.Outcome as says
 use Rattle.model.specs.Heard.{accepted}
 use Rattle.model.specs.Write.{underBudget}
 use Rattle.model.specs.Step.{step, quietly}
-use Rattle.engine.specs.declared.spot.Place.{Place}
+use Rattle.engine.specs.declared.spot.Subject.{Subject}
 use Rattle.engine.specs.declared.spot.Admission.{Admission}
 use Rattle.engine.specs.declared.spot.Admission.the-variants.{At}
 use Rattle.engine.specs.declared.spot.Admission.the-variants as admission
@@ -58,21 +58,21 @@ abbrev pub aboutNone : Admission
 aboutNone = at 0 0
 
 -- what a step is about
-abbrev pub placeOf : Topology → Step → Admission
-placeOf T (Send c b) = sending T c
-placeOf T (Receive c) = receiving T c
-placeOf T Begin = aboutNone
-placeOf T (PhysicalCheckpoint p) = onProcess T p
-placeOf T (LogicalCheckpoint p) = onProcess T p
-placeOf T (SendMarker c) = sending T c
-placeOf T Commit = aboutNone
-placeOf T Abort = aboutNone
+abbrev pub subjectOf : Topology → Step → Admission
+subjectOf T (Send c b) = sending T c
+subjectOf T (Receive c) = receiving T c
+subjectOf T Begin = aboutNone
+subjectOf T (PhysicalCheckpoint p) = onProcess T p
+subjectOf T (LogicalCheckpoint p) = onProcess T p
+subjectOf T (SendMarker c) = sending T c
+subjectOf T Commit = aboutNone
+subjectOf T Abort = aboutNone
 
 -- behind refusals 15, 6 and 8
-pub record Admitted (s : State) (x : Step) (cells : ℕ) (l : Place) : Type 0 where
+pub record Admitted (s : State) (x : Step) (cells : ℕ) (l : Subject) : Type 0 where
   pub sound : sound (view s) ≡ true
   pub store : storeCells ≤ cells
-  pub place : placeOf (s .topology) x ≡ At l
+  pub subject : subjectOf (s .topology) x ≡ At l
 
 -- 15, 6 and 8 before everything else; cells is the number of the store's cells
 abbrev pub Admits : State → Step → ℕ → Admission → Type 0
@@ -99,7 +99,7 @@ throughFor g x =
 
 -- the state g, for the step x, looks like this at the spot
 pub record Sees (g : GlobalState) (x : Step) (s : Spot) : Type 0 where
-  pub place : placeOf (g .topology) x ≡ at (s .channel) (s .process)
+  pub subject : subjectOf (g .topology) x ≡ at (s .channel) (s .process)
   pub processes : g .topology .processes ≡ s .processes
   pub channels : g .topology .channels ≡ s .channels
   pub round : g .round ≡ s .round
@@ -171,15 +171,15 @@ sized processes channels = record { processes = processes; channels = channels; 
 abbrev pub throughIn : List Bool → List Bool → ℕ → ℕ → Step → Bool
 throughIn logical closed n m x = cond (isCommit x) (allSet logical n && allSet closed m) false
 
--- a place and a topology's sizes that are within a state's arrays
-pub record Within (T : Topology) (at : Place) : Type 0 where
+-- a subject and a topology's sizes that are within a state's arrays
+pub record Within (T : Topology) (at : Subject) : Type 0 where
   pub processes : T .processes ≤ processLimit
   pub channels : T .channels ≤ channelLimit
   pub channel : at .channel < channelLimit
   pub process : at .process < processLimit
 
--- the spot at a place, by the parts of a state
-abbrev pub spotOf : Step → Place → Topology → Round → Channel → Flags → Counts → ℕ → Bool → Spot
+-- the spot of a subject, by the parts of a state
+abbrev pub spotOf : Step → Subject → Topology → Round → Channel → Flags → Counts → ℕ → Bool → Spot
 spotOf x at T round held flags counts word tag =
     record {
       channel = at .channel;

@@ -30,7 +30,7 @@ ghost use Rattle.model.specs.Change.{withChannel, plainChannels};
 ghost use Rattle.engine.specs.Answers.{Answers};
 ghost use Rattle.engine.specs.Spots.{Admits, Seen, Turns, ChannelsFit, answerOf};
 
-// Refusals 15, 6 and 8, in this order; and the place of a step that is none of them.
+// Refusals 15, 6 and 8, in this order; and the subject of a step that is none of them.
 fn admit(state: State, step: Step, cells: usize) -> Admission
     ensures { λ r. ⌜ Admits state step cells r ⌝ }
 {

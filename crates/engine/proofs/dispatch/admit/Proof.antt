@@ -7,7 +7,7 @@ use Rattle.model.specs.State.{view}
 use Rattle.model.specs.Sound.{sound}
 use Rattle.engine.proofs.Bounds.{sizes-fit}
 use Rattle.engine.proofs.Promises.{unsound, short}
-use Rattle.engine.proofs.Placing.{found-admits}
+use Rattle.engine.proofs.Subjects.{found-admits}
 use Rattle.engine.proofs.dispatch.admit.Statement.{statement}
 use Rattle.engine.proofs.dispatch.admit.Tie as tie
 

@@ -11,11 +11,11 @@ use Rattle.model.specs.declared.State.{State}
 use Rattle.model.specs.declared.Step.{Step}
 use Rattle.model.specs.State.{view}
 use Rattle.model.proofs.laws.SoundLaws.{sound-facts, entries-fit}
-use Rattle.engine.specs.declared.spot.Place.{Place}
+use Rattle.engine.specs.declared.spot.Subject.{Subject}
 use Rattle.engine.specs.declared.spot.Turn.{Turn}
 use Rattle.engine.specs.Spots.{Admits, Admitted, Within, Sees, putBack}
 use Rattle.engine.proofs.Lengths.{Lengths, lengths}
-use Rattle.engine.proofs.Placing.{within}
+use Rattle.engine.proofs.Subjects.{within}
 use Rattle.engine.proofs.Promises.{step-refused}
 use Rattle.engine.proofs.WriteBack.{spotAt, sees, Rewritten, put-plain, put-tags, step-stopped, step-went}
 use Rattle.engine.proofs.dispatch.step.Statement.{statement}
@@ -31,7 +31,7 @@ refused c =
     (subst (Admits (start .args .t1) (start .args .step) _) (told .refusal .given .1) (asked .admit .ensures))
     (c .refused .ensures)
 
--- admitted, at a place
+-- admitted, about a subject
 module _ (k : tie.After-known-told) where
   abbrev asked : tie.After-admit
   asked = k .before .before .before
@@ -45,14 +45,14 @@ module _ (k : tie.After-known-told) where
   abbrev x : Step
   x = start .args .step
 
-  abbrev place : Place
-  place = k .before .at .given .0 .0
+  abbrev subject : Subject
+  subject = k .before .at .given .0 .0
 
-  admitted : Admitted s x (length (now (start .args .store))) place
+  admitted : Admitted s x (length (now (start .args .store))) subject
   admitted = subst (Admits s x _) (k .before .at .given .1) (asked .admit .ensures)
 
-  inside : Within (s .topology) place
-  inside = within s (admitted .sound) x (admitted .place)
+  inside : Within (s .topology) subject
+  inside = within s (admitted .sound) x (admitted .subject)
 
   sizes : Lengths s
   sizes = lengths s _ (start .good .0)
@@ -71,9 +71,9 @@ module _ (r : tie.After-read) where
   abbrev there : tie.After-known-told
   there = at held
 
-  seen : Sees (view (s there)) (x there) (spotAt (s there) (x there) (place there) (held .held .result))
+  seen : Sees (view (s there)) (x there) (spotAt (s there) (x there) (subject there) (held .held .result))
   seen =
-      sees (s there) (sizes there) (place there) (inside there) (x there) _ (admitted there .place) _
+      sees (s there) (sizes there) (subject there) (inside there) (x there) _ (admitted there .subject) _
       (held .held .ensures)
 
 turn-requires : tie.Need-turn-requires
@@ -135,7 +135,7 @@ module _ (b : tie.After-channel-count) where
   abbrev made : tie.After-struct-known3
   made = goes .before
 
-  changed : Rewritten (s (here made)) (place (here made)) (came made) (tags .process-flag .last .0)
+  changed : Rewritten (s (here made)) (subject (here made)) (came made) (tags .process-flag .last .0)
       (record {
         logical = logical .process-flag2 .last .0;
         closed = closed .channel-flag .last .0;
@@ -162,17 +162,17 @@ written-back : (j : tie.Joined2)
     → let t = made (j .before) in
     let k = here t in
     view (j .if2 .state)
-    ≡ putBack (spotAt (s k) (x k) (place k) (held (read t) .held .result)) (came t) (view (s k))
+    ≡ putBack (spotAt (s k) (x k) (subject k) (held (read t) .held .result)) (came t) (view (s k))
 written-back j =
     let b = j .before in
     let t = made b in
     let k = here t in
     ⊎-elim
     (λ w. ap view (w .2)
-    ∙ put-tags (s k) (sizes k) (place k) (inside k) (x k) _ (came t) (changed b) (w .0 .taken) _
+    ∙ put-tags (s k) (sizes k) (subject k) (inside k) (x k) _ (came t) (changed b) (w .0 .taken) _
     (w .1 .ensures))
     (λ w. ap view (w .3)
-    ∙ put-plain (s k) (sizes k) (place k) (inside k) (x k) _ (came t) (changed b) (w .0 .left) _ _ (w .1 .ensures)
+    ∙ put-plain (s k) (sizes k) (subject k) (inside k) (x k) _ (came t) (changed b) (w .0 .left) _ _ (w .1 .ensures)
     (w .2 .ensures))
     (j .if2 .came)
 
@@ -184,7 +184,7 @@ accepted c =
     step-went (s k) (x k) _ _ (admitted k) (seen (read t)) (read t .read .ensures) (turned t .turn .ensures)
     (not-false _ (goes b .if1 .left)) (written-back (c .before)) (c .answered2 .ensures)
 
--- the place, where an array is read, and before each of them is written
+-- the subject, where an array is read, and before each of them is written
 abbrev reading : tie.After-counts → tie.After-known-told
 reading c = c .before .before .before .before .before
 

@@ -27,7 +27,7 @@ may s = isLogical (s .round .phase) && not (s .logical) && (eqb (s .process) 0 |
 -- what the model has for a state seen so
 module _ (s : Spot) (g : GlobalState) (v : Sees g (LogicalCheckpoint (s .process)) s) where
   here : Found (hasProcess (g .topology) (s .process)) 0 (s .process) (s .channel) (s .process)
-  here = found _ _ _ _ _ (v .place)
+  here = found _ _ _ _ _ (v .subject)
 
   decided : mayCheckpointLogically g (s .process) ≡ may s
   unfolding mayCheckpointLogically

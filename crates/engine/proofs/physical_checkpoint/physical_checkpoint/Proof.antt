@@ -44,7 +44,7 @@ next-busy Logical p e = refl
 -- what the model has for a state seen so
 module _ (s : Spot) (g : GlobalState) (v : Sees g (PhysicalCheckpoint (s .process)) s) where
   here : Found (hasProcess (g .topology) (s .process)) 0 (s .process) (s .channel) (s .process)
-  here = found _ _ _ _ _ (v .place)
+  here = found _ _ _ _ _ (v .subject)
 
   planned : s .process < s .processes
   unfolding hasProcess

@@ -25,7 +25,7 @@ use Rattle.engine.proofs.send.send.Tie as tie
 module _ (s : Spot) (b : ℕ) (g : GlobalState) (v : Sees g (Send (s .channel) b) s) where
   here : Found (hasChannel (g .topology) (s .channel)) (s .channel) (sender (g .topology) (s .channel)) (s .channel)
       (s .process)
-  here = found _ _ _ _ _ (v .place)
+  here = found _ _ _ _ _ (v .subject)
 
   own : {full : Bool} → noRoomForMessage (entries (s .held)) ≡ full
       → firstRefusal (ownChecks g (Send (s .channel) b)) ≡ cond full (some 9) none

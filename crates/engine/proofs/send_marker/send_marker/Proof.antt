@@ -30,7 +30,7 @@ may s = isLogical (s .round .phase) && s .logical && not (s .sent)
 module _ (s : Spot) (g : GlobalState) (v : Sees g (SendMarker (s .channel)) s) where
   here : Found (hasChannel (g .topology) (s .channel)) (s .channel) (sender (g .topology) (s .channel)) (s .channel)
       (s .process)
-  here = found _ _ _ _ _ (v .place)
+  here = found _ _ _ _ _ (v .subject)
 
   decided : maySendMarker g (s .channel) ≡ may s
   unfolding maySendMarker

@@ -1,13 +1,13 @@
--- `engine::spot::find` meets its contract: each arm is the place of its step.
+-- `engine::spot::find` meets its contract: each arm is the subject of its step.
 use borrow.Author.Needs.{needs}
 use Rattle.engine.proofs.spot.find.Statement.{statement}
 use Rattle.engine.proofs.spot.find.Tie as tie
 
 returns : tie.Need-returns
-returns c = rw (c .before .before .step .given .1) (c .sender .ensures)
+returns c = rw (c .before .before .step .given .1) (c .sending .ensures)
 
 returns-2 : tie.Need-returns-2
-returns-2 c = rw (c .before .before .step2 .given .1) (c .receiver .ensures)
+returns-2 c = rw (c .before .before .step2 .given .1) (c .receiving .ensures)
 
 returns-3 : tie.Need-returns-3
 returns-3 c = rw (c .before .enum-told .given .1) (c .nowhere .ensures)
@@ -19,7 +19,7 @@ returns-5 : tie.Need-returns-5
 returns-5 c = rw (c .before .before .step4 .given .1) (c .alone2 .ensures)
 
 returns-6 : tie.Need-returns-6
-returns-6 c = rw (c .before .before .step5 .given .1) (c .sender2 .ensures)
+returns-6 c = rw (c .before .before .step5 .given .1) (c .sending2 .ensures)
 
 returns-7 : tie.Need-returns-7
 returns-7 c = rw (c .before .enum-told2 .given .1) (c .nowhere2 .ensures)

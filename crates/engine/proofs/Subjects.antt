@@ -1,4 +1,5 @@
--- Where a step is: within a sound state's arrays; or it is refused with 8, where there is no such process or channel.
+-- What a step is about: it is within a sound state's arrays; or the step is refused with 8, where there is no such
+-- process or channel.
 use Prim.Native.Nat.{ℕ, _<_, _≤_}
 use mathlib.Core.Path.{_≡_, refl, sym, ap, _∙_}
 use mathlib.Core.Bool.{Bool, true, false, cond}
@@ -22,7 +23,7 @@ use Rattle.model.specs.Outcome as says
 use Rattle.engine.specs.declared.spot.Admission.{Admission}
 use Rattle.engine.specs.declared.spot.Admission.the-variants.{At}
 use Rattle.engine.specs.declared.spot.Admission.the-variants as admission
-use Rattle.engine.specs.Spots.{at, noSuch, sending, receiving, onProcess, placeOf, Admits, Within}
+use Rattle.engine.specs.Spots.{at, noSuch, sending, receiving, onProcess, subjectOf, Admits, Within}
 use Rattle.engine.proofs.Bounds.{sizes-fit, channel-bound, sender-bound, receiver-bound}
 use Rattle.engine.proofs.Promises.{missing}
 use Rattle.engine.proofs.Turning.{found, found-sending, found-receiving, found-process}
@@ -35,7 +36,7 @@ lost false a b r e = (refl, cc)
 never : {X : Type 0} (r : Refusal) → at 0 0 ≡ admission.Refused r → X
 never r e = let z : _≡_ {A = ℕ} 0 1 = cc in absurd (omega arith)
 
-nowhere : (g : GlobalState) (x : Step) (r : Refusal) → placeOf (g .topology) x ≡ admission.Refused r
+nowhere : (g : GlobalState) (x : Step) (r : Refusal) → subjectOf (g .topology) x ≡ admission.Refused r
     → (firstRefusal (ownChecks g x) ≡ some 8) × (NoSuch ≡ r)
 unfolding ownChecks priorChecks roomChecks logChecks firstRefusal
 nowhere g (Send c b) r e = let f = lost (hasChannel (g .topology) c) _ _ r e in (rw (f .0), f .1)
@@ -47,16 +48,16 @@ nowhere g (SendMarker c) r e = let f = lost (hasChannel (g .topology) c) _ _ r e
 nowhere g Commit r e = never r e
 nowhere g Abort r e = never r e
 
--- what was found is the place of the step, or the step is refused
+-- what was found is the subject of the step, or the step is refused
 pub found-admits : (s : State) (x : Step) (cells : ℕ) → sound (view s) ≡ true → storeCells ≤ cells
-    → (a : Admission) → a ≡ placeOf (s .topology) x → Admits s x cells a
+    → (a : Admission) → a ≡ subjectOf (s .topology) x → Admits s x cells a
 unfolding view
-found-admits s x cells h l (At place) e = record { sound = h; store = l; place = sym e }
+found-admits s x cells h l (At subject) e = record { sound = h; store = l; subject = sym e }
 found-admits s x cells h l (admission.Refused r) e =
     let n = nowhere (view s) x r (sym e) in
     missing s x cells h l (n .0) ∙ ap (λ (q : Refusal). quietly (says.refused (refusalNumber q)) (view s)) (n .1)
 
--- the place of a step is within the arrays
+-- the subject of a step is within the arrays
 module _ (s : State) (h : sound (view s) ≡ true) {c p : ℕ} where
   inside : c < channelLimit → p < processLimit → Within (s .topology) (record { channel = c; process = p })
   inside l k =
@@ -86,7 +87,7 @@ module _ (s : State) (h : sound (view s) ≡ true) {c p : ℕ} where
       let l = ltb-true n (s .topology .processes) (f .holds) in
       inside (omega (arith, f .channel)) (omega (arith, sizes-fit s h .processes, l, f .process))
 
-  pub within : (x : Step) → placeOf (s .topology) x ≡ at c p
+  pub within : (x : Step) → subjectOf (s .topology) x ≡ at c p
       → Within (s .topology) (record { channel = c; process = p })
   within (Send n b) e = sends n e
   within (Receive n) e = receives n e

@@ -1,9 +1,9 @@
--- `engine::spot::receiver` meets its contract.
+-- `engine::spot::receiving` meets its contract.
 use borrow.Author.Needs.{needs}
 use borrow.Author.Tests.{lt-ltb, le-ltb}
 use Rattle.model.specs.Topology.{receiver, hasChannel}
-use Rattle.engine.proofs.spot.receiver.Statement.{statement}
-use Rattle.engine.proofs.spot.receiver.Tie as tie
+use Rattle.engine.proofs.spot.receiving.Statement.{statement}
+use Rattle.engine.proofs.spot.receiving.Tie as tie
 
 returns : tie.Need-returns
 unfolding hasChannel
@@ -13,5 +13,5 @@ returns-2 : tie.Need-returns-2
 unfolding hasChannel receiver
 returns-2 c = rw (lt-ltb _ _ (c .before .if1 .left))
 
-pub receiver-spec : {M : Type 1} → statement M
-receiver-spec = tie.close (tie.spec returns (λ c. search needs) returns-2)
+pub receiving-spec : {M : Type 1} → statement M
+receiving-spec = tie.close (tie.spec returns (λ c. search needs) returns-2)
