@@ -9,7 +9,7 @@ use Rattle.model.specs.State.{GlobalState, noProgress}
 use Rattle.model.specs.Change.{inPhase, withRound, withProgress}
 use Rattle.model.specs.Step.{physicalFrom}
 use Rattle.model.proofs.laws.Tests.{Tested, holds, fails, test}
-use Rattle.engine.specs.Answers.{phaseFrom}
+use Rattle.engine.specs.Spots.{phaseFrom}
 
 -- the round goes on in the phase found, and the logical phase starts with no progress
 pub goes-on : (from : ℕ) (g : GlobalState) {n : ℕ} → g .topology .processes ≡ n

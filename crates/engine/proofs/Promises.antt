@@ -21,7 +21,7 @@ use Rattle.model.specs.Write.{Result, Answered, underBudget, writeAll}
 use Rattle.model.specs.Step.{step, ownChecks, stepChecks, resultOf, answer, quietly}
 use Rattle.model.specs.Outcome.{refusalNumber}
 use Rattle.model.specs.Outcome as says
-use Rattle.engine.specs.Answers.{Meets, Answers, refusedBy, ownResult, Performs}
+use Rattle.engine.specs.Answers.{Meets, Answers, refusedBy, ownResult}
 
 -- a result without writes, under any budget
 pub unbudgeted : (budget : ℕ) (s : GlobalState) (store : List ℕ) (r : Result) → r .writes ≡ []
@@ -66,6 +66,6 @@ module _ (s : State) (x : Step) (before : List ℕ) (budget : ℕ) where
       (record { outcome = refl; made = refl; state = refl; kept = λ _. refl; store = refl })))
 
   pub step-own : sound (view s) ≡ true → storeCells ≤ length before → (r : Answer) (after : List ℕ)
-      → Performs s x before budget r after → Answers s x before budget r after
+      → found (ownResult (view s) x) r after → Answers s x before budget r after
   unfolding answer
   step-own h l r after m = subst (λ (y : Result). found y r after) (sym (own-step s x (length before) h l)) m

@@ -4,10 +4,13 @@ use mathlib.Core.Path.{_≡_}
 use mathlib.Core.Bool.{Bool, true, false, cond, _&&_}
 use mathlib.Core.List.{List, []}
 use lib.ListN.{length, getD, set, replicate}
+use lib.Dec.{ltb}
 use Rattle.model.specs.declared.Answer.{Answer}
 use Rattle.model.specs.declared.Channel.{Channel}
 use Rattle.model.specs.declared.Counts.{Counts}
 use Rattle.model.specs.declared.Flags.{Flags}
+use Rattle.model.specs.declared.Phase.{Phase}
+use Rattle.model.specs.declared.Phase.the-variants.{Physical, Logical}
 use Rattle.model.specs.declared.Refusal.the-variants.{NoSuch}
 use Rattle.model.specs.declared.Round.{Round}
 use Rattle.model.specs.declared.State.{State}
@@ -35,7 +38,7 @@ use Rattle.engine.specs.declared.spot.Admission.the-variants as admissio
 use Rattle.engine.specs.declared.spot.Spot.{Spot}
 use Rattle.engine.specs.declared.spot.Reset.{Reset}
 use Rattle.engine.specs.declared.spot.Turn.{Turn}
-use Rattle.engine.specs.Answers.{ownResult, allSet}
+use Rattle.engine.specs.Answers.{ownResult}
 
 abbrev pub at : ℕ → ℕ → Admission
 at c p = At (record { channel = c; process = p })
@@ -163,9 +166,17 @@ pub record QuietTurn (s : Spot) (x : Step) (r : Turn) : Type 0 where
   pub made : r .made ≡ 0
   pub went : accepted (saidBy (r .outcome)) ≡ r .went
 
+-- the phase from the physical checkpoint of process `from` on, where there are n
+abbrev pub phaseFrom : ℕ → ℕ → Phase
+phaseFrom n from = cond (ltb from n) (Physical from) Logical
+
 -- a topology of these sizes: what a begin clears goes by the sizes alone
 abbrev pub sized : ℕ → ℕ → Topology
 sized processes channels = record { processes = processes; channels = channels; from = []; to = [] }
+
+-- whether the first n flags are all set
+abbrev pub allSet : List Bool → ℕ → Bool
+allSet flags n = allBelow n (λ i. getD flags i false)
 
 -- by the code's flags: "every board marked, every wire closed", asked for a commit alone
 abbrev pub throughIn : List Bool → List Bool → ℕ → ℕ → Step → Bool

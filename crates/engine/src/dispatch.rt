@@ -6,7 +6,6 @@ use crate::entries;
 use crate::logical_checkpoint;
 use crate::physical_checkpoint;
 use crate::receive;
-use crate::refusal;
 use crate::send;
 use crate::send_marker;
 use crate::spot;
@@ -15,6 +14,7 @@ use crate::spot::Spot;
 use crate::spot::Turn;
 use crate::write;
 use model::Answer;
+use model::Outcome;
 use model::Refusal;
 use model::State;
 use model::Step;
@@ -27,7 +27,7 @@ ghost use lib.ListN.{length};
 ghost use Rattle.model.specs.Layout.{storeCells};
 ghost use Rattle.model.specs.State.{view};
 ghost use Rattle.model.specs.Change.{withChannel, plainChannels};
-ghost use Rattle.engine.specs.Answers.{Answers};
+ghost use Rattle.engine.specs.Answers.{Answers, refusedBy};
 ghost use Rattle.engine.specs.Spots.{Admits, Seen, Turns, ChannelsFit, answerOf};
 
 // Refusals 15, 6 and 8, in this order; and the subject of a step that is none of them.
@@ -80,6 +80,17 @@ fn plain_channels(mut state: State) -> State
     state
 }
 
+// A refusal before the turn: no write was made, and the very state handed in comes back.
+fn refused(state: State, refusal: Refusal) -> Answer
+    ensures { λ r. ⌜ r ≡ refusedBy refusal state ⌝ }
+{
+    Answer {
+        outcome: Outcome::Refused(refusal),
+        made: 0,
+        state,
+    }
+}
+
 // The answer, with the state as the turn left it.
 fn answered(came: Turn, state: State) -> Answer
     ensures { λ r. ⌜ r ≡ answerOf came state ⌝ }
@@ -98,7 +109,7 @@ pub fn step(mut state: State, step: Step, store: &mut [u32], budget: u32) -> Ans
 {
     let at = match admit(state, step, store.len()) {
         Admission::At(at) => at,
-        Admission::Refused(refusal) => return refusal::refused(state, refusal),
+        Admission::Refused(refusal) => return refused(state, refusal),
     };
     let c = at.channel as usize;
     let p = at.process as usize;
