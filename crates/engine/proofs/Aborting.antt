@@ -1,4 +1,4 @@
--- How an abort's loop gets, channel by channel, to what the definition has.
+-- How the loop of `plain_channels` gets, channel by channel, to what the definition has.
 use Prim.Native.Nat.{ℕ, _+_}
 use mathlib.Core.Path.{_≡_, refl, sym, ap, fun-ext, _∙_}
 use mathlib.Core.Bool.{false, cond}

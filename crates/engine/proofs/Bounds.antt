@@ -11,7 +11,7 @@ use Rattle.model.specs.declared.State.{State}
 use Rattle.model.specs.declared.Channel.{Channel}
 use Rattle.model.specs.declared.Entry.{Entry}
 use Rattle.model.specs.Topology.{processLimit, channelLimit, sender, receiver, topologyRefusal}
-use Rattle.model.specs.Channel.{channelRoom, arrayPlaces, entries}
+use Rattle.model.specs.Channel.{arrayPlaces, entries}
 use Rattle.model.specs.State.{view}
 use Rattle.model.specs.Sound.{sound}
 use Rattle.model.proofs.laws.ChannelLaws.{entries-count}
@@ -19,7 +19,7 @@ use Rattle.model.proofs.laws.SoundLaws.{Sound, sound-facts}
 use Rattle.model.proofs.laws.TopologyLaws.{SizesFit, accepted-sizes, sender-planned, receiver-planned}
 
 -- a channel's count is the number of its entries
-pub count-fits : (x : Channel) (es : List Entry) → es ≡ entries x → length es ≤ channelRoom → x .count ≤ arrayPlaces
+pub count-fits : (x : Channel) (es : List Entry) → es ≡ entries x → length es ≤ arrayPlaces → x .count ≤ arrayPlaces
 count-fits x es e l = omega (arith, ap length e, entries-count x)
 
 module _ (s : State) (h : sound (view s) ≡ true) where

@@ -112,13 +112,12 @@ module _ (x : Reaction) (s : Spot) (h : Fits s) (roomy : fullFor x s ≡ false) 
       below =
           second (x .«message_log») (x .«channel_log» && leb channelPlaces (s .«in_channel»)) messagePlaces _ e roomy
 
-beq-true : (b : Bool) → Bool·beq b true ≡ b
-beq-true true = refl
-beq-true false = refl
-
-beq-false : (b : Bool) → not (Bool·beq b false) ≡ b
-beq-false true = refl
-beq-false false = refl
+-- the code's test turns a tag over
+pub toggled : (b t : Bool) → not (Bool·beq b t) ≡ cond t (not b) b
+toggled true true = refl
+toggled true false = refl
+toggled false true = refl
+toggled false false = refl
 
 -- a flag raised, a tag turned over and a count raised, where that is so
 module _ (f : ℕ → Bool) (i : ℕ) {b : Bool} (e : f i ≡ b) where
@@ -126,9 +125,9 @@ module _ (f : ℕ → Bool) (i : ℕ) {b : Bool} (e : f i ≡ b) where
   flagged true = ap (upd f i) (sym (or-true b))
   flagged false = sym (unchanged f i (b || false) (e ∙ sym (or-false b)))
 
-  pub turned : (t : Bool) → cond t (upd f i (not (f i))) f ≡ upd f i (not (Bool·beq b t))
-  turned true = ap (upd f i) (ap not e ∙ sym (ap not (beq-true b)))
-  turned false = sym (unchanged f i (not (Bool·beq b false)) (e ∙ sym (beq-false b)))
+  pub turned : (t : Bool) → cond t (upd f i (not (f i))) f ≡ upd f i (cond t (not b) b)
+  turned true = ap (λ (v : Bool). upd f i (not v)) e
+  turned false = sym (unchanged f i b e)
 
 pub counted : (f : ℕ → ℕ) (i : ℕ) {n : ℕ} → f i ≡ n → (t : Bool)
     → cond t (upd f i (f i + 1)) f ≡ upd f i (n + boolByte t)

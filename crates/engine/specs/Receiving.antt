@@ -2,7 +2,7 @@
 -- full, what is written, and what becomes of the receiver's word.
 use Prim.Native.Nat.{ℕ, _+_, _<_, _≤_}
 use mathlib.Core.Path.{_≡_}
-use mathlib.Core.Bool.{Bool, not, _&&_, _||_, Bool·beq}
+use mathlib.Core.Bool.{Bool, cond, not, _&&_, _||_}
 use mathlib.Core.List.{List, _++_}
 use mir.Val.{boolByte}
 use lib.ListN.{drop}
@@ -21,7 +21,7 @@ use Rattle.engine.specs.declared.spot.Spot.{Spot}
 use Rattle.engine.specs.Spent.{appendIf}
 
 -- what a spot has of a sound state: its channel and its receiver are in the arrays, the counts are no larger than the
--- room that they count
+-- places that they count
 pub record Fits (s : Spot) : Type 0 where
   pub channel : s .channel < channelLimit
   pub receiver : s .process < processLimit
@@ -57,7 +57,7 @@ pub record Received (s : Spot) (e : Entry) (x : Reaction) (n : Spot) : Type 0 wh
   pub round : n .round ≡ s .round
   pub held : entries (n .held) ≡ drop 1 (entries (s .held))
   pub word : n .word ≡ wordAfter (s .channel) e (s .word)
-  pub tag : n .tag ≡ not (Bool·beq (s .tag) (x .«logical_first»))
+  pub tag : n .tag ≡ cond (x .«logical_first») (not (s .tag)) (s .tag)
   pub logical : n .logical ≡ (s .logical || x .«logical_first»)
   pub closed : n .closed ≡ (s .closed || x .closes)
   pub sent : n .sent ≡ s .sent

@@ -21,7 +21,7 @@ use Rattle.model.specs.declared.Step.the-variants.{LogicalCheckpoint, SendMarke
 use Rattle.model.specs.declared.Outcome.{Outcome}
 use Rattle.model.specs.Notation.{upd, allBelow}
 use Rattle.model.specs.Topology.{processLimit, channelLimit, sender, receiver, hasProcess, hasChannel}
-use Rattle.model.specs.Channel.{channelRoom, entries}
+use Rattle.model.specs.Channel.{arrayPlaces, entries}
 use Rattle.model.specs.Layout.{storeCells}
 use Rattle.model.specs.State.{GlobalState, noProgress, noCounts, view}
 use Rattle.model.specs.Sound.{sound}
@@ -152,15 +152,15 @@ putBack s r g =
 abbrev pub afterTurn : Spot → Turn → GlobalState → GlobalState
 afterTurn s r g = cond (r .went) (putBack s r g) g
 
--- The promise of a step's own part that writes: of every state that looks so at the spot, the turn is what the model's
--- definition has.
+-- The promise of a step's own part: of every state that looks so at the spot, the turn is what the model's definition
+-- has.
 pub record Turns (s : Spot) (x : Step) (before : List ℕ) (budget : ℕ) (r : Turn) (after : List ℕ) : Type 0 where
   pub answered : (g : GlobalState) → Sees g x s
       → underBudget budget g before (ownResult g x)
       ≡ record { outcome = saidBy (r .outcome); made = r .made; state = afterTurn s r g; store = after }
   pub went : accepted (saidBy (r .outcome)) ≡ r .went
 
--- and of one that writes nothing
+-- and of a step that writes nothing, for any store and budget
 pub record QuietTurn (s : Spot) (x : Step) (r : Turn) : Type 0 where
   pub result : (g : GlobalState) → Sees g x s → ownResult g x ≡ quietly (saidBy (r .outcome)) (afterTurn s r g)
   pub made : r .made ≡ 0
@@ -214,10 +214,10 @@ spotOf x at T round held flags counts word tag =
 abbrev pub rewritten : {A : Type 0} → ℕ → A → Bool → List A → ℕ → A → List A
 rewritten n z back l i x = cond back (replicate n z) (set l i x)
 
--- the planned channels are within the arrays, and their entries within their room
+-- the planned channels are within the arrays, and their entries within a channel's places
 pub record ChannelsFit (s : State) : Type 0 where
   pub number : s .topology .channels ≤ channelLimit
-  pub entries : (c : ℕ) → c < s .topology .channels → length (view s .channel c) ≤ channelRoom
+  pub entries : (c : ℕ) → c < s .topology .channels → length (view s .channel c) ≤ arrayPlaces
 
 abbrev pub answerOf : Turn → State → Answer
 answerOf r s = record { outcome = r .outcome; made = r .made; state = s }

@@ -156,7 +156,8 @@ plain-channels-requires : tie.Need-plain-channels-requires
 unfolding view
 plain-channels-requires c κs =
     let k = here (made (c .before)) in
-    record { number = inside k .channels; entries = entries-fit (view (s k)) (sound-facts _ (admitted k .sound)) }
+    let facts = sound-facts (view (s k)) (admitted k .sound) in
+    record { number = inside k .channels; entries = λ c l. omega (arith, entries-fit (view (s k)) facts c l) }
 
 written-back : (j : tie.Joined2)
     → let t = made (j .before) in

@@ -2,7 +2,7 @@
 use borrow.Author.Needs.{needs}
 use native.Mathlib.Omega.{arith}
 use mathlib.Core.Path.{refl}
-use Rattle.engine.proofs.Receptions.{a-bit}
+use Rattle.engine.proofs.Receptions.{a-bit, toggled}
 use Rattle.engine.proofs.receive.after.Statement.{statement}
 use Rattle.engine.proofs.receive.after.Tie as tie
 
@@ -17,11 +17,12 @@ add-in-messages c = omega (arith, a-bit (start (c .before .before) .args .x .«m
 
 returns : tie.Need-returns
 returns c =
+    let a = start (c .before .before .before .before) .args in
     record {
       round = refl;
       held = c .before .pop .ensures;
       word = c .word-after .ensures;
-      tag = refl;
+      tag = toggled (a .s .tag) (a .x .«logical_first»);
       logical = refl;
       closed = refl;
       sent = refl;
