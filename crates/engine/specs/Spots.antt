@@ -29,7 +29,7 @@ use Rattle.model.specs.Change.{plainChannels}
 use Rattle.model.specs.Outcome.{refusalNumber, saidBy}
 use Rattle.model.specs.Outcome as says
 use Rattle.model.specs.Heard.{accepted}
-use Rattle.model.specs.Write.{underBudget}
+use Rattle.model.specs.Write.{Write, underBudget, clearWrites}
 use Rattle.model.specs.Step.{step, quietly}
 use Rattle.engine.specs.declared.spot.Subject.{Subject}
 use Rattle.engine.specs.declared.spot.Admission.{Admission}
@@ -173,6 +173,9 @@ phaseFrom n from = cond (ltb from n) (Physical from) Logical
 -- a topology of these sizes: what a begin clears goes by the sizes alone
 abbrev pub sized : ℕ → ℕ → Topology
 sized processes channels = record { processes = processes; channels = channels; from = []; to = [] }
+
+abbrev pub clearing : ℕ → ℕ → ℕ → List Write
+clearing processes channels line = clearWrites (sized processes channels) line
 
 -- whether the first n flags are all set
 abbrev pub allSet : List Bool → ℕ → Bool

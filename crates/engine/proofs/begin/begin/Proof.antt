@@ -53,7 +53,10 @@ returns c =
     turns-refused _ _ _ _ _
     (λ g v. not-now _ g v (sym (t .before .is-idle .ensures) ∙ not-true _ (t .if1 .taken))) (c .refused .ensures)
 
-idle : (d : tie.Else1) → isIdle (d .before .before .before .before .args .s .round .phase) ≡ true
+abbrev start : tie.Else1 → tie.Start
+start d = d .before .before .before .before
+
+idle : (d : tie.Else1) → isIdle (start d .args .s .round .phase) ≡ true
 idle d = sym (d .before .is-idle .ensures) ∙ not-false _ (d .if1 .left)
 
 returns-2 : tie.Need-returns-2
@@ -63,9 +66,9 @@ returns-2 c =
 
 clear-requires : tie.Need-clear-requires
 clear-requires c κs =
-    let start = c .before .before .before .before .before .before .before .before in
-    let fit = seen-sizes (start .pre .0) in
-    (fit .processes, fit .channels, start .pre .1)
+    let p = start (c .before .before .before .before) .pre in
+    let fit = seen-sizes (p .0) in
+    (fit .processes, fit .channels, p .1)
 
 -- once the counts are cleared
 module _ (p : tie.After-clear) where
@@ -73,7 +76,7 @@ module _ (p : tie.After-clear) where
   e = p .before .before .before
 
   abbrev s : Spot
-  s = e .before .before .before .before .before .before .args .s
+  s = start (e .before .before) .args .s
 
   may : (g : GlobalState) → Sees g Begin s → firstRefusal (ownChecks g Begin) ≡ none
   may g v = passed s g v (idle (e .before .before)) (e .if2 .left)

@@ -75,8 +75,8 @@ loop-again c =
       omega arith,
       simp length-set (inv .1),
       simp length-set (inv .2),
-      channel-set (here t .loop .state) (i t) (in-places t) (in-lengths t) (made .plain .result) (parted .places .result)
-          (c .used .result) (parted .places .ensures) (c .used .ensures)
+      channel-set (here t .loop .state) (i t) (in-places t) (in-lengths t) (made .plain .result)
+          (parted .places .result) (c .used .result) (parted .places .ensures) (c .used .ensures)
           ∙ plain-to-more _ (view (here t .loop .state)) (i t) (inv .3) _
           (made .plain .ensures
           ∙ ap (λ (es : List Entry). messages false (bodies es))

@@ -50,7 +50,8 @@ module _ (p : tie.After-react) where
 channel-empty : tie.Need-returns
 channel-empty c =
     let t = c .before in
-    turns-refused _ _ _ _ _ (λ g v. empty _ g v (sym (t .before .length .ensures) ∙ t .if1 .taken)) (c .refused .ensures)
+    turns-refused _ _ _ _ _ (λ g v. empty _ g v (sym (t .before .length .ensures) ∙ t .if1 .taken))
+    (c .refused .ensures)
 
 marker-on-closed : tie.Need-returns-2
 marker-on-closed c =

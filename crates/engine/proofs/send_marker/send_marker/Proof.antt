@@ -53,7 +53,10 @@ returns c =
     (c .refused .ensures)
 
 -- it may be sent
-allowed : (d : tie.Else1) → may (d .before .before .before .before .before .args .s) ≡ true
+abbrev spot : tie.Else1 → Spot
+spot d = d .before .before .before .before .before .args .s
+
+allowed : (d : tie.Else1) → may (spot d) ≡ true
 allowed d = rw (← (d .before .before .before .is-logical .ensures)) (not-false _ (d .if1 .left))
 
 returns-2 : tie.Need-returns-2
@@ -65,8 +68,7 @@ returns-2 c =
     (c .refused2 .ensures)
 
 -- and there is room
-room : (d : tie.Else2) → let asked = d .before .before .before in
-    noRoomForMarker (entries (asked .before .before .before .before .before .args .s .held)) ≡ false
+room : (d : tie.Else2) → noRoomForMarker (entries (spot (d .before .before .before) .held)) ≡ false
 room d = sym (d .before .no-room-for-marker .ensures) ∙ d .if2 .left
 
 push-requires : tie.Need-push-requires

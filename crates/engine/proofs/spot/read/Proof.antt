@@ -14,7 +14,7 @@ through-requires c κs =
     )
 
 returns : tie.Need-returns
-returns c = rw (c .before .before .before .before .before .before .through .ensures)
+returns c = let asked = c .before .before .before .before .before .before in rw (asked .through .ensures)
 
 pub read-spec : {M : Type 1} → statement M
 read-spec =
