@@ -211,23 +211,29 @@ abbrev putting : tie.After-places → tie.After-known-told
 putting c = here (made (c .before .before))
 
 -- the store is as long as before
-same-length : tie.Need-same-length
-same-length c = search needs
+length-stopped : tie.Need-same-length
+length-stopped c = search needs
 
-same-length-2 : tie.Need-same-length-2
-same-length-2 c = let kept = turned (made (c .before .before)) .turn .kept in search needs
+length-accepted : tie.Need-same-length-2
+length-accepted c = let kept = turned (made (c .before .before)) .turn .kept in search needs
 
 -- every need, in the order of the code
 pub step-spec : {M : Type 1} → statement M
 step-spec =
+    let admit-requires : tie.Need-admit-requires = λ c κs. search needs in
+    let known-at : tie.Need-enum-known-at = λ c. search needs in
+    let known-refusal : tie.Need-enum-known-refusal = λ c. search needs in
+    let refused-requires : tie.Need-refused-requires = λ c κs. search needs in
     let cast-channel : tie.Need-cast-c = λ c. omega (arith, inside (c .before) .channel) in
     let cast-process : tie.Need-cast-p = λ c. omega (arith, inside (c .before .before) .process) in
-    let index-places : tie.Need-element-copy-out-held = λ c. inside (reading c) .channel in
     let offset-places : tie.Need-mul-held = λ c. omega (arith, inside (reading c) .channel) in
+    let index-places : tie.Need-element-copy-out-held = λ c. inside (reading c) .channel in
     let index-lengths : tie.Need-element-copy-out-held-2 = λ c. inside (reading (c .before)) .channel in
+    let held-requires : tie.Need-held-requires = λ c κs. search needs in
     let offset-words : tie.Need-mul-word = λ c. omega (arith, inside (at c) .process) in
     let index-words : tie.Need-element-copy-out-word = λ c. inside (at c) .process in
     let index-tags : tie.Need-element-copy-out-tag = λ c. inside (at (c .before)) .process in
+    let answer-stopped : tie.Need-answered-requires = λ c κs. search needs in
     let offset-word : tie.Need-mul-state = λ c. omega (arith, inside (writing c) .process) in
     let index-word : tie.Need-element-write-state = λ c. inside (writing c) .process in
     let index-tag : tie.Need-process-flag-requires = λ c κs. inside (writing (c .before)) .process in
@@ -236,12 +242,15 @@ step-spec =
     let index-sent : tie.Need-channel-flag-requires-2 = λ c κs. inside (shut (c .before)) .channel in
     let index-messages : tie.Need-process-count-requires = λ c κs. inside (noted (c .before)) .process in
     let index-channels : tie.Need-channel-count-requires = λ c κs. inside (counted (c .before)) .channel in
+    let places-requires : tie.Need-places-requires = λ c κs. search needs in
     let offset-channel : tie.Need-mul-t55 = λ c. omega (arith, inside (putting c) .channel) in
     let index-channel : tie.Need-element-set-from-state = λ c. inside (putting c) .channel in
+    let used-requires : tie.Need-used-requires = λ c κs. search needs in
     let index-length : tie.Need-element-write-state-2 = λ c. inside (putting (c .before)) .channel in
+    let answer-accepted : tie.Need-answered-requires-2 = λ c κs. search needs in
     tie.close
-    (tie.spec (λ c κs. search needs) (λ c. search needs) (λ c. search needs) (λ c κs. search needs) refused
-    cast-channel cast-process offset-places index-places index-lengths (λ c κs. search needs) offset-words index-words
-    index-tags read-requires turn-requires (λ c κs. search needs) same-length stopped offset-word index-word index-tag
-    index-logical index-closed index-sent index-messages index-channels plain-channels-requires (λ c κs. search needs)
-    offset-channel index-channel (λ c κs. search needs) index-length (λ c κs. search needs) same-length-2 accepted)
+    (tie.spec admit-requires known-at known-refusal refused-requires refused cast-channel cast-process offset-places
+    index-places index-lengths held-requires offset-words index-words index-tags read-requires turn-requires
+    answer-stopped length-stopped stopped offset-word index-word index-tag index-logical index-closed index-sent
+    index-messages index-channels plain-channels-requires places-requires offset-channel index-channel used-requires
+    index-length answer-accepted length-accepted accepted)

@@ -100,15 +100,24 @@ received c =
     receive-went (decided (p e)) (may e) (l .before .before .receipt .ensures) (l .log .ensures) (lasted .if4 .left)
     (c .before .before .outcome .ensures) (c .before .after .ensures) (c .went .ensures)
 
+-- every need, in the order of the code
 pub receive-spec : {M : Type 1} → statement M
 receive-spec =
+    let length-requires : tie.Need-length-requires = λ c κs. search needs in
+    let refuse-empty : tie.Need-refused-requires = λ c κs. search needs in
+    let entry-at-requires : tie.Need-entry-at-requires = λ c κs. search needs in
+    let receiver-requires : tie.Need-receiver-requires = λ c κs. search needs in
+    let react-requires : tie.Need-react-requires = λ c κs. search needs in
+    let refuse-closed : tie.Need-refused-requires-2 = λ c κs. search needs in
+    let full-requires : tie.Need-full-requires = λ c κs. search needs in
+    let refuse-full : tie.Need-refused-requires-3 = λ c κs. search needs in
+    let receipt-requires : tie.Need-receipt-requires = λ c κs. search needs in
+    let stopped-requires : tie.Need-stopped-requires = λ c κs. search needs in
+    let length-cut : tie.Need-same-length = λ c. search needs in
+    let outcome-requires : tie.Need-outcome-requires = λ c κs. search needs in
+    let went-requires : tie.Need-went-requires = λ c κs. search needs in
+    let length-received : tie.Need-same-length-2 = λ c. search needs in
     tie.close
-    (tie.spec
-    (λ c κs. search needs) (λ c κs. search needs) channel-empty
-    (λ c κs. search needs) (λ c κs. search needs) (λ c κs. search needs)
-    (λ c κs. search needs) marker-on-closed
-    (λ c κs. search needs) (λ c κs. search needs) log-full
-    (λ c κs. search needs) log-requires
-    (λ c κs. search needs) (λ c. search needs) power-lost
-    (λ c κs. search needs) after-requires
-    (λ c κs. search needs) (λ c. search needs) received)
+    (tie.spec length-requires refuse-empty channel-empty entry-at-requires receiver-requires react-requires
+    refuse-closed marker-on-closed full-requires refuse-full log-full receipt-requires log-requires stopped-requires
+    length-cut power-lost outcome-requires after-requires went-requires length-received received)
