@@ -143,18 +143,7 @@ returns-3 c =
 pub physical-checkpoint-spec : {M : Type 1} → statement M
 physical-checkpoint-spec =
     tie.close
-    (tie.spec
-    (λ c κs. search needs)
-    (λ c κs. search needs)
-    returns
-    add-physical-cell
-    (λ c κs. search needs)
-    put-requires
-    (λ c κs. search needs)
-    (λ c. search needs)
-    returns-2
-    (λ c. omega (arith, below (e (lasted (c .before)))))
-    (λ c κs. search needs)
-    (λ c κs. search needs)
-    (λ c. search needs)
-    returns-3)
+    (tie.spec (λ c κs. search needs) (λ c κs. search needs) returns add-physical-cell (λ c κs. search needs)
+    put-requires (λ c κs. search needs) (λ c. search needs) returns-2
+    (λ c. omega (arith, below (e (lasted (c .before))))) (λ c κs. search needs) (λ c κs. search needs)
+    (λ c. search needs) returns-3)

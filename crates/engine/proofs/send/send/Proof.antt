@@ -60,11 +60,5 @@ returns-2 c =
 pub send-spec : {M : Type 1} → statement M
 send-spec =
     tie.close
-    (tie.spec
-    (λ c κs. search needs)
-    (λ c κs. search needs)
-    returns
-    push-requires
-    (λ c κs. search needs)
-    (λ c κs. search needs)
-    returns-2)
+    (tie.spec (λ c κs. search needs) (λ c κs. search needs) returns push-requires (λ c κs. search needs)
+    (λ c κs. search needs) returns-2)
