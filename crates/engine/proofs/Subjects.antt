@@ -1,14 +1,15 @@
 -- What a step is about: it is within a sound state's arrays; or the step is refused with 8, where there is no such
 -- process or channel.
 use Prim.Native.Nat.{ℕ, _<_, _≤_}
-use mathlib.Core.Path.{_≡_, refl, sym, ap, _∙_}
+use mathlib.Core.Path.{_≡_, refl, sym, ap, subst, _∙_}
 use mathlib.Core.Bool.{Bool, true, false, cond}
 use mathlib.Core.Option.{some}
-use borrow.Author.Tests.{ltb-true}
+use borrow.Author.Tests.{ltb-true, ltb-false}
 use native.Mathlib.Omega.{arith}
+use lib.Dec.{ltb}
 use Rattle.model.specs.declared.State.{State}
 use Rattle.model.specs.declared.Refusal.{Refusal}
-use Rattle.model.specs.declared.Refusal.the-variants.{NoSuch}
+use Rattle.model.specs.declared.Refusal.the-variants.{NoSuch, ShortStore, Unsound}
 use Rattle.model.specs.declared.Step.{Step}
 use Rattle.model.specs.declared.Step.the-variants.{Send, Receive, Begin, PhysicalCheckpoint}
 use Rattle.model.specs.declared.Step.the-variants.{LogicalCheckpoint, SendMarker, Commit, Abort}
@@ -17,15 +18,17 @@ use Rattle.model.specs.Layout.{storeCells}
 use Rattle.model.specs.Topology.{processLimit, channelLimit, sender, receiver, hasProcess, hasChannel}
 use Rattle.model.specs.State.{GlobalState, view}
 use Rattle.model.specs.Sound.{sound}
-use Rattle.model.specs.Step.{priorChecks, roomChecks, logChecks, ownChecks, quietly}
+use Rattle.model.specs.Step.{step, priorChecks, roomChecks, logChecks, ownChecks, quietly}
 use Rattle.model.specs.Outcome.{refusalNumber}
 use Rattle.model.specs.Outcome as says
+use Rattle.model.proofs.laws.Tests.{Tested, holds, fails, test}
+use Rattle.engine.specs.declared.spot.Subject.{Subject}
 use Rattle.engine.specs.declared.spot.Admission.{Admission}
 use Rattle.engine.specs.declared.spot.Admission.the-variants.{At}
 use Rattle.engine.specs.declared.spot.Admission.the-variants as admission
-use Rattle.engine.specs.Spots.{at, noSuch, sending, receiving, onProcess, subjectOf, Admits, Within}
+use Rattle.engine.specs.Spots.{at, noSuch, sending, receiving, onProcess, subjectOf, admissionOf, Within}
 use Rattle.engine.proofs.Bounds.{sizes-fit, channel-bound, sender-bound, receiver-bound}
-use Rattle.engine.proofs.Promises.{missing}
+use Rattle.engine.proofs.Promises.{unsound, short, missing}
 use Rattle.engine.proofs.Turning.{found, found-sending, found-receiving, found-process}
 
 -- no such board or wire: it is refused with 8
@@ -48,14 +51,35 @@ nowhere g (SendMarker c) r e = let f = lost (hasChannel (g .topology) c) _ _ r e
 nowhere g Commit r e = never r e
 nowhere g Abort r e = never r e
 
--- what was found is the subject of the step, or the step is refused
-pub found-admits : (s : State) (x : Step) (cells : ℕ) → sound (view s) ≡ true → storeCells ≤ cells
+-- behind refusals 15, 6 and 8
+pub record Admitted (s : State) (x : Step) (cells : ℕ) (l : Subject) : Type 0 where
+  pub sound : sound (view s) ≡ true
+  pub store : storeCells ≤ cells
+  pub subject : subjectOf (s .topology) x ≡ At l
+
+-- what an admission says of a step: it is admitted, or the refusal is what the definition has
+abbrev pub Admits : State → Step → ℕ → Admission → Type 0
+Admits s x cells (At l) = Admitted s x cells l
+Admits s x cells (admission.Refused r) = step (view s) cells x ≡ quietly (says.refused (refusalNumber r)) (view s)
+
+found-admits : (s : State) (x : Step) (cells : ℕ) → sound (view s) ≡ true → storeCells ≤ cells
     → (a : Admission) → a ≡ subjectOf (s .topology) x → Admits s x cells a
 unfolding view
 found-admits s x cells h l (At subject) e = record { sound = h; store = l; subject = sym e }
 found-admits s x cells h l (admission.Refused r) e =
     let n = nowhere (view s) x r (sym e) in
     missing s x cells h l (n .0) ∙ ap (λ (q : Refusal). quietly (says.refused (refusalNumber q)) (view s)) (n .1)
+
+pub admits : (s : State) (x : Step) (cells : ℕ) (a : Admission) → a ≡ admissionOf s x cells → Admits s x cells a
+admits s x cells a e = go (test (sound (view s))) (test (ltb cells storeCells))
+  where
+    go : Tested (sound (view s)) → Tested (ltb cells storeCells) → Admits s x cells a
+    go (holds h) (holds l) =
+        let q : a ≡ admission.Refused ShortStore = e ∙ rw (h, l) in
+        subst (Admits s x cells) (sym q) (short s x cells h (ltb-true _ _ l))
+    go (holds h) (fails l) = found-admits s x cells h (ltb-false _ _ l) a (e ∙ rw (h, l))
+    go (fails h) t =
+        let q : a ≡ admission.Refused Unsound = e ∙ rw h in subst (Admits s x cells) (sym q) (unsound s x cells h)
 
 -- the subject of a step is within the arrays
 module _ (s : State) (h : sound (view s) ≡ true) {c p : ℕ} where

@@ -24,11 +24,12 @@ use Rattle.engine.specs.declared.spot.Admission.the-variants.{At}
 use Rattle.engine.specs.declared.spot.Spot.{Spot}
 use Rattle.engine.specs.declared.spot.Turn.{Turn}
 use Rattle.engine.specs.Answers.{Meets, Answers}
-use Rattle.engine.specs.Spots.{subjectOf, Admitted, Within, Sees, Turns, putBack, afterTurn}
+use Rattle.engine.specs.Spots.{subjectOf, Within, Sees, Turns, putBack, afterTurn}
 use Rattle.engine.specs.Spots.{spotOf, rewritten, answerOf}
 use Rattle.engine.proofs.Views.{same-state, channel-read, channels-set}
 use Rattle.engine.proofs.Lengths.{Lengths}
 use Rattle.engine.proofs.Promises.{step-own}
+use Rattle.engine.proofs.Subjects.{Admitted}
 
 -- the spot that the code reads of a state, with the channel that it holds there
 abbrev pub spotAt : State → Step → Subject → Channel → Spot

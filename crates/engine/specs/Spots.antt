@@ -11,7 +11,7 @@ use Rattle.model.specs.declared.Counts.{Counts}
 use Rattle.model.specs.declared.Flags.{Flags}
 use Rattle.model.specs.declared.Phase.{Phase}
 use Rattle.model.specs.declared.Phase.the-variants.{Physical, Logical}
-use Rattle.model.specs.declared.Refusal.the-variants.{NoSuch}
+use Rattle.model.specs.declared.Refusal.the-variants.{NoSuch, ShortStore, Unsound}
 use Rattle.model.specs.declared.Round.{Round}
 use Rattle.model.specs.declared.State.{State}
 use Rattle.model.specs.declared.Topology.{Topology}
@@ -26,11 +26,10 @@ use Rattle.model.specs.Layout.{storeCells}
 use Rattle.model.specs.State.{GlobalState, noProgress, noCounts, view}
 use Rattle.model.specs.Sound.{sound}
 use Rattle.model.specs.Change.{plainChannels}
-use Rattle.model.specs.Outcome.{refusalNumber, saidBy}
-use Rattle.model.specs.Outcome as says
+use Rattle.model.specs.Outcome.{saidBy}
 use Rattle.model.specs.Heard.{accepted}
 use Rattle.model.specs.Write.{Write, underBudget, clearWrites}
-use Rattle.model.specs.Step.{step, quietly}
+use Rattle.model.specs.Step.{quietly}
 use Rattle.engine.specs.declared.spot.Subject.{Subject}
 use Rattle.engine.specs.declared.spot.Admission.{Admission}
 use Rattle.engine.specs.declared.spot.Admission.the-variants.{At}
@@ -71,16 +70,11 @@ subjectOf T (SendMarker c) = sending T c
 subjectOf T Commit = aboutNone
 subjectOf T Abort = aboutNone
 
--- behind refusals 15, 6 and 8
-pub record Admitted (s : State) (x : Step) (cells : ℕ) (l : Subject) : Type 0 where
-  pub sound : sound (view s) ≡ true
-  pub store : storeCells ≤ cells
-  pub subject : subjectOf (s .topology) x ≡ At l
-
--- 15, 6 and 8 before everything else; cells is the number of the store's cells
-abbrev pub Admits : State → Step → ℕ → Admission → Type 0
-Admits s x cells (At l) = Admitted s x cells l
-Admits s x cells (admission.Refused r) = step (view s) cells x ≡ quietly (says.refused (refusalNumber r)) (view s)
+-- before everything else 15, then 6, then 8; cells is the number of the store's cells
+abbrev pub admissionOf : State → Step → ℕ → Admission
+admissionOf s x cells =
+    cond (sound (view s)) (cond (ltb cells storeCells) (admission.Refused ShortStore) (subjectOf (s .topology) x))
+    (admission.Refused Unsound)
 
 abbrev pub isCommit : Step → Bool
 isCommit (Send c b) = false

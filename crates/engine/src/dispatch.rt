@@ -28,11 +28,11 @@ ghost use Rattle.model.specs.Layout.{storeCells};
 ghost use Rattle.model.specs.State.{view};
 ghost use Rattle.model.specs.Change.{withChannel, plainChannels};
 ghost use Rattle.engine.specs.Answers.{Answers, refusedBy};
-ghost use Rattle.engine.specs.Spots.{Admits, Seen, Turns, ChannelsFit, answerOf};
+ghost use Rattle.engine.specs.Spots.{admissionOf, Seen, Turns, ChannelsFit, answerOf};
 
 // Refusals 15, 6 and 8, in this order; and the subject of a step that is none of them.
 fn admit(state: State, step: Step, cells: usize) -> Admission
-    ensures { λ r. ⌜ Admits state step cells r ⌝ }
+    ensures { λ r. ⌜ r ≡ admissionOf state step cells ⌝ }
 {
     if !sound::sound(state) {
         return Admission::Refused(Refusal::Unsound);

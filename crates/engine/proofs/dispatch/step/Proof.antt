@@ -13,9 +13,9 @@ use Rattle.model.specs.State.{view}
 use Rattle.model.proofs.laws.SoundLaws.{sound-facts, entries-fit}
 use Rattle.engine.specs.declared.spot.Subject.{Subject}
 use Rattle.engine.specs.declared.spot.Turn.{Turn}
-use Rattle.engine.specs.Spots.{Admits, Admitted, Within, Sees, putBack}
+use Rattle.engine.specs.Spots.{Within, Sees, putBack}
 use Rattle.engine.proofs.Lengths.{Lengths, lengths}
-use Rattle.engine.proofs.Subjects.{within}
+use Rattle.engine.proofs.Subjects.{Admitted, admits, within}
 use Rattle.engine.proofs.Promises.{step-refused}
 use Rattle.engine.proofs.WriteBack.{spotAt, sees, Rewritten, put-plain, put-tags, step-stopped, step-went}
 use Rattle.engine.proofs.dispatch.step.Statement.{statement}
@@ -28,7 +28,7 @@ refused c =
     let asked = told .before .before in
     let start = asked .before .before in
     step-refused (start .args .t1) _ _ _ _
-    (subst (Admits (start .args .t1) (start .args .step) _) (told .refusal .given .1) (asked .admit .ensures))
+    (admits (start .args .t1) (start .args .step) _ _ (sym (told .refusal .given .1) ∙ asked .admit .ensures))
     (c .refused .ensures)
 
 -- admitted, about a subject
@@ -49,7 +49,7 @@ module _ (k : tie.After-known-told) where
   subject = k .before .at .given .0 .0
 
   admitted : Admitted s x (length (now (start .args .store))) subject
-  admitted = subst (Admits s x _) (k .before .at .given .1) (asked .admit .ensures)
+  admitted = admits s x _ _ (sym (k .before .at .given .1) ∙ asked .admit .ensures)
 
   inside : Within (s .topology) subject
   inside = within s (admitted .sound) x (admitted .subject)
