@@ -43,7 +43,8 @@ module _ (F : Form) (st : List ℕ) (log : Log) where
       rw (lt-leb (cell st (count F st log)) (places log) h, and-false (ltb (last F st log) (length st)))
       (and-false (possible log))
 
-  pub within : possible log ≡ true → last F st log < length st → cell st (count F st log) ≤ places log → whole F st log ≡ true
+  pub within : possible log ≡ true → last F st log < length st → cell st (count F st log) ≤ places log
+      → whole F st log ≡ true
   unfolding whole
   within so h l =
       and-both _ _ so

@@ -45,9 +45,9 @@ whole F store log =
     && (ltb (countCell F (storedLine store) log + entryCells F log * places log) (length store)
     && leb (cell store (countCell F (storedLine store) log)) (places log))
 
--- What is read of process p and of channel c, in any store: where their log is whole, what a restart by the form's rules
--- gives them if they are planned; 0 and nothing where it isn't. In a store that a restart takes, every planned log is
--- whole (proofs/Whole.antt).
+-- What is read of process p and of channel c, in any store: where their log is whole, what a restart by the form's
+-- rules gives them if they are planned; 0 and nothing where it isn't. In a store that a restart takes, every planned
+-- log is whole (proofs/Whole.antt).
 abbrev pub wordRead : model.Form → List ℕ → ℕ → ℕ
 wordRead F store p = cond (whole F store (messageLog p)) (restored F store (storedLine store) p) 0
 

@@ -88,8 +88,8 @@ pub fn word(form: Form, store: &[u32], process: u8) -> u32
 }
 
 // A channel at the store's line, as messages tagged 0; empty where there can be none such, its record isn't in the
-// store, or its log is over its places. Open are the places past its length: all of the log's are copied, since a number
-// of turns that is known costs less.
+// store, or its log is over its places. Open are the places past its length: all of the log's are copied, since a
+// number of turns that is known costs less.
 pub fn channel(form: Form, store: &[u32], channel: u8) -> Channel
     ensures { λ r. ⌜ entries r ≡ channelRead (formOf form) (now (store .entry)) channel ⌝ }
 {

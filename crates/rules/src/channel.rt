@@ -10,7 +10,7 @@ ghost use Rattle.model.specs.Channel.{held, placesOf, entryOf, entryAt, entries
 ghost use Rattle.model.specs.Channel.{roomLeft, noRoomForMessage, noRoomForMarker};
 ghost use Rattle.model.specs.State.{noPlaces, emptyChannel};
 
-// The kinds of a place: a message with tag 0, one with tag 1, and a marker (document 01's note), as every other kind is.
+// The kinds of a place: a message with tag 0, one with tag 1, and a marker (document 01's note), as any other kind is.
 pub const PLAIN: u8 = 0;
 
 pub const TAGGED: u8 = 1;
