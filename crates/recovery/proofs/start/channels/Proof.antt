@@ -59,8 +59,8 @@ loop-again c =
       simp length-set (l .inv .1),
       simp length-set (l .inv .2),
       filled-both (λ (p : Places) (n : ℕ). entries (held p n)) (l .places) (l .lengths) noPlaces
-          (parted .places2 .result) 0 (c .used .result) (at t) (channelOf (a .store .now)) [] (omega (arith, l .inv .1, inside t))
-          (omega (arith, l .inv .2, inside t)) (l .inv .3) filled,
+          (parted .places2 .result) 0 (c .used .result) (at t) (channelOf (a .store .now)) []
+          (omega (arith, l .inv .1, inside t)) (omega (arith, l .inv .2, inside t)) (l .inv .3) filled,
     )
 
 returns : tie.Need-returns Inv-loop μ-loop
