@@ -1,5 +1,6 @@
 // Topologies and states made by hand: one of each to start from, and functions that change a thing of it.
 use model::CHANNELS;
+use model::Entry;
 use model::PLACES;
 use model::PROCESSES;
 use model::Phase;
@@ -7,6 +8,7 @@ use model::Round;
 use model::State;
 use model::Step;
 use model::Topology;
+use rules::channel;
 
 // The papers' numbers stand here by hand, so that the code's own constants are tried too: the cells of a store, the
 // cell of k, and the last k there is.
@@ -21,9 +23,6 @@ pub const RUBBISH: u32 = 3735928559;
 
 // The body of every message here.
 pub const BODY: u32 = 5;
-
-// The kind of an entry that is a marker.
-const MARKER: u8 = 2;
 
 // So many processes and channels, each channel with both ends at process 0.
 pub fn sized(processes: u8, channels: u8) -> Topology {
@@ -95,25 +94,30 @@ pub fn with_messages(mut state: State, channel: usize, count: u8) -> State {
     state
 }
 
-// A message alone on a channel, with tag 1: its receiver's is 0.
-pub fn with_other_tag(mut state: State, channel: usize) -> State {
+// An entry alone on a channel.
+fn with_entry(mut state: State, channel: usize, entry: Entry) -> State {
     let c = channel % CHANNELS;
-    let mut places = state.places[c];
-    places.bodies[0] = BODY;
-    places.kinds[0] = 1;
-    state.places[c] = places;
-    state.lengths[c] = 1;
+    let held = channel::push(channel::empty(), entry);
+    state.places[c] = channel::places(held);
+    state.lengths[c] = channel::used(held);
     state
 }
 
+// A message alone on a channel, with tag 1: its receiver's is 0.
+pub fn with_other_tag(state: State, channel: usize) -> State {
+    with_entry(
+        state,
+        channel,
+        Entry::Message {
+            body: BODY,
+            tag: true,
+        },
+    )
+}
+
 // A marker alone on a channel.
-pub fn with_marker(mut state: State, channel: usize) -> State {
-    let c = channel % CHANNELS;
-    let mut places = state.places[c];
-    places.kinds[0] = MARKER;
-    state.places[c] = places;
-    state.lengths[c] = 1;
-    state
+pub fn with_marker(state: State, channel: usize) -> State {
+    with_entry(state, channel, Entry::Marker)
 }
 
 // Every process with its logical checkpoint, and every channel closed.

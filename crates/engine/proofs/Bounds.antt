@@ -1,26 +1,17 @@
--- What a sound state says of the code's numbers: its processes and channels and the ends of its channels are within the
--- arrays, and so are the entries of a channel.
-use Prim.Native.Nat.{ℕ, _<_, _≤_}
-use mathlib.Core.Path.{_≡_, ap}
+-- What a sound state says of the code's numbers: its processes and channels, and the ends of its channels, are within
+-- the arrays.
+use Prim.Native.Nat.{ℕ, _<_}
+use mathlib.Core.Path.{_≡_}
 use mathlib.Core.Bool.{true}
-use mathlib.Core.List.{List}
 use mathlib.Core.Option.{none}
 use native.Mathlib.Omega.{arith}
-use lib.ListN.{length, getD}
+use lib.ListN.{getD}
 use Rattle.model.specs.declared.State.{State}
-use Rattle.model.specs.declared.Channel.{Channel}
-use Rattle.model.specs.declared.Entry.{Entry}
 use Rattle.model.specs.Topology.{processLimit, channelLimit, sender, receiver, topologyRefusal}
-use Rattle.model.specs.Channel.{arrayPlaces, entries}
 use Rattle.model.specs.State.{view}
 use Rattle.model.specs.Sound.{sound}
-use Rattle.model.proofs.laws.ChannelLaws.{entries-count}
 use Rattle.model.proofs.laws.SoundLaws.{Sound, sound-facts}
 use Rattle.model.proofs.laws.TopologyLaws.{SizesFit, accepted-sizes, sender-planned, receiver-planned}
-
--- a channel's count is the number of its entries
-pub count-fits : (x : Channel) (es : List Entry) → es ≡ entries x → length es ≤ arrayPlaces → x .count ≤ arrayPlaces
-count-fits x es e l = omega (arith, ap length e, entries-count x)
 
 module _ (s : State) (h : sound (view s) ≡ true) where
   facts : Sound (view s)

@@ -13,19 +13,18 @@ use Rattle.model.specs.declared.Entry.{Entry}
 use Rattle.model.specs.declared.Entry.the-variants.{Message, Marker}
 use Rattle.model.specs.Word.{receipt, enter}
 use Rattle.model.specs.Topology.{processLimit, channelLimit}
-use Rattle.model.specs.Channel.{arrayPlaces, entries}
+use Rattle.model.specs.Channel.{entries}
 use Rattle.model.specs.Layout.{Log, messageLog, channelLog, messagePlaces, channelPlaces, countCell, entryFor}
 use Rattle.model.specs.Write.{Write}
 use Rattle.rules.specs.declared.reaction.Reaction.{Reaction}
 use Rattle.engine.specs.declared.spot.Spot.{Spot}
 use Rattle.engine.specs.Spent.{appendIf}
 
--- what a spot has of a sound state: its channel and its receiver are in the arrays, the counts are no larger than the
--- places that they count
+-- what a spot has of a sound state: its channel and its receiver are in the arrays, and the logs' counts are no larger
+-- than the places that they count
 pub record Fits (s : Spot) : Type 0 where
   pub channel : s .channel < channelLimit
   pub receiver : s .process < processLimit
-  pub entries : s .held .count ≤ arrayPlaces
   pub inChannel : s .«in_channel» ≤ channelPlaces
   pub inMessages : s .«in_messages» ≤ messagePlaces
 

@@ -3,7 +3,7 @@ use Prim.Native.Nat.{ℕ, _<_, _≤_}
 use mathlib.Core.Path.{_≡_}
 use mathlib.Core.Bool.{Bool, true, false, cond, _&&_}
 use mathlib.Core.List.{List, []}
-use lib.ListN.{length, getD, set, replicate}
+use lib.ListN.{getD, set, replicate}
 use lib.Dec.{ltb}
 use Rattle.model.specs.declared.Answer.{Answer}
 use Rattle.model.specs.declared.Channel.{Channel}
@@ -21,7 +21,7 @@ use Rattle.model.specs.declared.Step.the-variants.{LogicalCheckpoint, SendMarke
 use Rattle.model.specs.declared.Outcome.{Outcome}
 use Rattle.model.specs.Notation.{upd, allBelow}
 use Rattle.model.specs.Topology.{processLimit, channelLimit, sender, receiver, hasProcess, hasChannel}
-use Rattle.model.specs.Channel.{arrayPlaces, entries}
+use Rattle.model.specs.Channel.{entries}
 use Rattle.model.specs.Layout.{storeCells}
 use Rattle.model.specs.State.{GlobalState, noProgress, noCounts, view}
 use Rattle.model.specs.Sound.{sound}
@@ -210,11 +210,6 @@ spotOf x at T round held flags counts word tag =
 -- an array of n places with one of them written, or all set back to z
 abbrev pub rewritten : {A : Type 0} → ℕ → A → Bool → List A → ℕ → A → List A
 rewritten n z back l i x = cond back (replicate n z) (set l i x)
-
--- the planned channels are within the arrays, and their entries within a channel's places
-pub record ChannelsFit (s : State) : Type 0 where
-  pub number : s .topology .channels ≤ channelLimit
-  pub entries : (c : ℕ) → c < s .topology .channels → length (view s .channel c) ≤ arrayPlaces
 
 abbrev pub answerOf : Turn → State → Answer
 answerOf r s = record { outcome = r .outcome; made = r .made; state = s }

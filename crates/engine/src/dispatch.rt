@@ -2,7 +2,6 @@
 use crate::abort;
 use crate::begin;
 use crate::commit;
-use crate::entries;
 use crate::logical_checkpoint;
 use crate::physical_checkpoint;
 use crate::receive;
@@ -24,11 +23,12 @@ use rules::sound;
 ghost use mathlib.Core.Path.{_≡_};
 ghost use Prim.Native.Nat.{_≤_};
 ghost use lib.ListN.{length};
+ghost use Rattle.model.specs.Topology.{channelLimit};
 ghost use Rattle.model.specs.Layout.{storeCells};
 ghost use Rattle.model.specs.State.{view};
 ghost use Rattle.model.specs.Change.{withChannel, plainChannels};
 ghost use Rattle.engine.specs.Answers.{Answers, refusedBy};
-ghost use Rattle.engine.specs.Spots.{admissionOf, Seen, Turns, ChannelsFit, answerOf};
+ghost use Rattle.engine.specs.Spots.{admissionOf, Seen, Turns, answerOf};
 
 // Refusals 15, 6 and 8, in this order; and the subject of a step that is none of them.
 fn admit(state: State, step: Step, cells: usize) -> Admission
@@ -65,14 +65,14 @@ fn turn(step: Step, s: Spot, store: &mut [u32], budget: u32) -> Turn
 
 // The planned channels with their messages alone, in order and with tag 0.
 fn plain_channels(mut state: State) -> State
-    requires { ⌜ ChannelsFit state ⌝ }
+    requires { ⌜ state .topology .channels ≤ channelLimit ⌝ }
     ensures { λ r. ⌜ view r ≡ withChannel (plainChannels (view state)) (view state) ⌝ }
 {
     let t = state.topology;
     let mut i: u8 = 0;
     while i < t.channels {
         let at = i as usize;
-        let plain = entries::plain(channel::held(state.places[at], state.lengths[at]));
+        let plain = channel::plain(channel::held(state.places[at], state.lengths[at]));
         state.places[at] = channel::places(plain);
         state.lengths[at] = channel::used(plain);
         i += 1;

@@ -1,18 +1,19 @@
--- Where a channel has room for one more entry, its arrays have a place for it.
-use Prim.Native.Nat.{_<_}
+-- Where a channel has room for one more entry by the rules, its arrays have a place for it.
 use mathlib.Core.Path.{_≡_}
 use mathlib.Core.Bool.{false}
+use mathlib.Core.List.{List, [], _∷_, _++_}
+use lib.ListN.{length}
 use native.Mathlib.Omega.{arith}
-use borrow.Author.Tests.{eqb-false}
-use Rattle.model.specs.declared.Channel.{Channel}
-use Rattle.model.specs.Channel.{arrayPlaces, entries, roomLeft, noRoomForMessage, noRoomForMarker}
-use Rattle.model.proofs.laws.ChannelLaws.{entries-count}
+use borrow.Author.Tests.{eqb-false, lt-ltb}
+use Rattle.model.specs.declared.Entry.{Entry}
+use Rattle.model.specs.Channel.{arrayPlaces, roomLeft, noRoomForMessage, noRoomForMarker}
+use Rattle.rules.specs.Placing.{pushed}
 
-module _ (x : Channel) where
-  pub place-for-message : noRoomForMessage (entries x) ≡ false → x .count < arrayPlaces
-  unfolding noRoomForMessage
-  place-for-message e = omega (arith, eqb-false (roomLeft (entries x)) 0 e, entries-count x)
+module _ (es : List Entry) (e : Entry) where
+  pub message-pushed : noRoomForMessage es ≡ false → pushed es e ≡ es ++ (e ∷ [])
+  unfolding noRoomForMessage pushed
+  message-pushed room = rw (lt-ltb (length es) arrayPlaces (omega (arith, eqb-false (roomLeft es) 0 room)))
 
-  pub place-for-marker : noRoomForMarker (entries x) ≡ false → x .count < arrayPlaces
-  unfolding noRoomForMarker
-  place-for-marker e = omega (arith, eqb-false (roomLeft (entries x)) 0 e, entries-count x)
+  pub marker-pushed : noRoomForMarker es ≡ false → pushed es e ≡ es ++ (e ∷ [])
+  unfolding noRoomForMarker pushed
+  marker-pushed room = rw (lt-ltb (length es) arrayPlaces (omega (arith, eqb-false (roomLeft es) 0 room)))

@@ -1,4 +1,5 @@
 -- What the functions of rules promise in terms of the model's definitions.
 pub mod Ends
 pub mod Fields
+pub mod Placing
 pub mod Reacting

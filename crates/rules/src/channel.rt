@@ -1,27 +1,32 @@
-// A channel (document 01's wire) by value: what it is made of, its entries, and how much room is left. What a place's
-// kind means is said here alone; beside this module only the engine's entries, which put entries into places and move
-// them, know how a channel lies in its arrays.
+// A channel (document 01's wire) by value: its entries, first in first out, and how much room is left. How it lies in
+// its arrays, and what a place's kind means, is known here alone.
 use model::Channel;
 use model::Entry;
 use model::Places;
 ghost use mathlib.Core.Path.{_≡_};
-ghost use lib.ListN.{length};
-ghost use Rattle.model.specs.Channel.{held, placesOf, entryOf, entryAt, entries};
+ghost use mathlib.Core.Bool.{false};
+ghost use mathlib.Core.List.{[], _∷_, _++_};
+ghost use Prim.Native.Nat.{_+_, _<_};
+ghost use lib.ListN.{length, drop};
+ghost use Rattle.model.specs.Channel.{held, placesOf, entryOf, entryAt, entries, bodies, messages};
 ghost use Rattle.model.specs.Channel.{roomLeft, noRoomForMessage, noRoomForMarker};
 ghost use Rattle.model.specs.State.{noPlaces, emptyChannel};
+ghost use Rattle.rules.specs.Placing.{placed, pushed};
 
 // The kinds of a place: a message with tag 0, one with tag 1, and a marker (document 01's note), as any other kind is.
-pub const PLAIN: u8 = 0;
+const PLAIN: u8 = 0;
 
-pub const TAGGED: u8 = 1;
+const TAGGED: u8 = 1;
 
-pub const MARKER: u8 = 2;
+const MARKER: u8 = 2;
 
 // How many entries a channel has room for, by the rules.
 pub const ROOM: u8 = 8;
 
-// How many places its arrays have, as a count.
+// How many places its arrays have, as a count; and the last of them.
 const PLACES: u8 = model::PLACES as u8;
+
+const LAST_PLACE: usize = model::PLACES - 1;
 
 // Places with nothing in them, and a channel with no entry.
 pub fn blank() -> Places
@@ -118,4 +123,74 @@ pub fn no_room_for_marker(c: Channel) -> bool
     ensures { λ r. ⌜ r ≡ noRoomForMarker (entries c) ⌝ }
 {
     room(c) == 0
+}
+
+// The channel with one place more in use, of this kind and body. One past the arrays can't be written to, and reads as
+// it always does.
+fn extend(c: Channel, kind: u8, body: u32) -> Channel
+    requires { ⌜ c .count < 255 ⌝ }
+    ensures { λ r. ⌜ (entries r ≡ entries c ++ (placed (c .count) kind body ∷ [])) × (r .count ≡ c .count + 1) ⌝ }
+{
+    let mut r = c;
+    r.count = c.count + 1;
+    if PLACES <= c.count {
+        return r;
+    }
+    let at = c.count as usize;
+    r.kinds[at] = kind;
+    r.bodies[at] = body;
+    r
+}
+
+// The channel with an entry after its others; as it is, where its arrays have no place left.
+pub fn push(c: Channel, e: Entry) -> Channel
+    ensures { λ r. ⌜ entries r ≡ pushed (entries c) e ⌝ }
+{
+    if PLACES <= c.count {
+        return c;
+    }
+    match e {
+        Entry::Message { body, tag } => {
+            if tag {
+                extend(c, TAGGED, body)
+            } else {
+                extend(c, PLAIN, body)
+            }
+        }
+        Entry::Marker => extend(c, MARKER, 0),
+    }
+}
+
+// The channel without its first entry; as it is, where it has none.
+pub fn pop(c: Channel) -> Channel
+    ensures { λ r. ⌜ entries r ≡ drop 1 (entries c) ⌝ }
+{
+    if c.count == 0 {
+        return c;
+    }
+    let mut r = empty();
+    r.count = c.count - 1;
+    let mut i: usize = 0;
+    while i < LAST_PLACE {
+        r.kinds[i] = c.kinds[i + 1];
+        r.bodies[i] = c.bodies[i + 1];
+        i += 1;
+    }
+    r
+}
+
+// The channel's messages alone, in order and with tag 0.
+pub fn plain(c: Channel) -> Channel
+    ensures { λ r. ⌜ entries r ≡ messages false (bodies (entries c)) ⌝ }
+{
+    let entries = length(c);
+    let mut r = empty();
+    let mut i: u8 = 0;
+    while i < entries {
+        if let Entry::Message { body, tag: _ } = entry_at(c, i) {
+            r = extend(r, PLAIN, body);
+        }
+        i += 1;
+    }
+    r
 }

@@ -4,7 +4,7 @@ use Prim.Native.Nat.{ℕ, zero, suc, _+_, _-_, _<_, _≤_}
 use mathlib.Core.Path.{_≡_, refl, sym, ap, _∙_}
 use mathlib.Core.Bool.{Bool, true, false}
 use mathlib.Core.List.{List, [], _∷_, _++_, append-nil, map-append}
-use lib.ListN.{length, getD, set, drop}
+use lib.ListN.{length, getD, set, drop, List·getD-eq-default}
 use lib.Seq.{getD-set-same, getD-set-other}
 use native.Mathlib.Omega.{arith}
 use native.Mathlib.Numerals.{add-one}
@@ -66,7 +66,12 @@ at-written c i k b lk lb = rw (getD-set-same (c .kinds) i k 0 lk, getD-set-same 
 pub at-other : (c : Channel) (i j k b : ℕ) → (j ≡ i → ⊥) → entryAt (written c i k b) j ≡ entryAt c j
 at-other c i j k b n = rw (getD-set-other (c .kinds) i j k 0 n, getD-set-other (c .bodies) i j b 0 n)
 
--- one place more
+-- a place past the arrays
+pub at-past : (c : Channel) (i : ℕ) → length (c .kinds) ≤ i → length (c .bodies) ≤ i → entryAt c i ≡ entryOf 0 0
+at-past c i lk lb =
+    rw (List·getD-eq-default (c .kinds) 0 {n = i} lk, List·getD-eq-default (c .bodies) 0 {n = i} lb)
+
+-- one place more, in the arrays and past them
 pub extended : (c : Channel) (k b : ℕ) → c .count < length (c .kinds) → c .count < length (c .bodies)
     → entries
     (record { bodies = set (c .bodies) (c .count) b; kinds = set (c .kinds) (c .count) k; count = c .count + 1 })
@@ -79,6 +84,11 @@ extended c k b lk lb =
       tabulate-cong (c .count) (entryAt (written c (c .count) k b)) (entryAt c)
           (λ i l. at-other c (c .count) i k b (λ e. omega arith)),
     )
+
+pub extended-past : (c : Channel) → length (c .kinds) ≤ c .count → length (c .bodies) ≤ c .count
+    → entries (record { bodies = c .bodies; kinds = c .kinds; count = c .count + 1 }) ≡ entries c ++ (entryOf 0 0 ∷ [])
+unfolding entries
+extended-past c lk lb = tabulate-more (c .count) (entryAt c) ∙ rw (at-past c (c .count) lk lb)
 
 -- the first entry, and those after it
 module _ (c : Channel) (full : 0 < c .count) where

@@ -12,7 +12,6 @@ use Rattle.model.specs.Topology.{channelLimit, hasChannel}
 use Rattle.model.specs.Channel.{bodies, messages}
 use Rattle.model.specs.State.{view}
 use Rattle.model.specs.Change.{plainChannels}
-use Rattle.engine.proofs.Bounds.{count-fits}
 use Rattle.engine.proofs.Lengths.{lengths}
 use Rattle.engine.proofs.Views.{channel-read, channel-set}
 use Rattle.engine.proofs.Aborting.{plainTo, plain-to-none, next-channel, plain-to-more}
@@ -34,7 +33,7 @@ loop-holds c =
     let n = lengths (c .before .args .t1) _ (c .before .good .0) in
     (omega arith, n .places, n .lengths, plain-to-none _)
 
--- a turn of the loop: the channel is one of the array, and its entries are within their room
+-- a turn of the loop: the channel is one of the array
 module _ (t : tie.Then1 Inv-loop μ-loop) where
   abbrev here : tie.At-loop Inv-loop μ-loop
   here = t .before .before
@@ -46,7 +45,7 @@ module _ (t : tie.Then1 Inv-loop μ-loop) where
   i = here .loop .i
 
   below : i < channelLimit
-  below = omega (arith, t .if1 .taken, start .pre .number)
+  below = omega (arith, t .if1 .taken, start .pre)
 
   in-places : i < length (here .loop .state .places)
   in-places = omega (arith, below, here .loop .inv .1)
@@ -57,13 +56,6 @@ module _ (t : tie.Then1 Inv-loop μ-loop) where
   as-before : view (here .loop .state) .channel i ≡ view (start .args .t1) .channel i
   unfolding view
   as-before = next-channel _ (view (here .loop .state)) i (here .loop .inv .3)
-
-plain-requires : tie.Need-plain-requires Inv-loop μ-loop
-plain-requires c κs =
-    let t = c .before .before .before in
-    count-fits _ _
-    (sym (as-before t) ∙ channel-read (here t .loop .state) (i t) (in-places t) _ (c .held .ensures))
-    (start t .pre .entries (i t) (t .if1 .taken))
 
 loop-again : tie.Need-loop-again Inv-loop μ-loop
 loop-again c =
@@ -97,7 +89,7 @@ pub plain-channels-spec : {M : Type 1} → statement M
 plain-channels-spec =
     tie.close
     (tie.spec Inv-loop μ-loop loop-holds (λ c. omega (arith, below c)) (λ c. omega (arith, below c)) (λ c. below c)
-    (λ c. below (c .before)) (λ c κs. search needs) plain-requires (λ c κs. search needs)
+    (λ c. below (c .before)) (λ c κs. search needs) (λ c κs. search needs) (λ c κs. search needs)
     (λ c. omega (arith, below (turning c))) (λ c. below (turning c)) (λ c κs. search needs)
     (λ c. below (turning (c .before))) (λ c. omega (arith, below (turning (c .before)))) (λ c. omega arith) loop-again
     returns)

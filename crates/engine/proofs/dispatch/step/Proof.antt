@@ -10,7 +10,6 @@ use borrow.Author.Tests.{not-true, not-false}
 use Rattle.model.specs.declared.State.{State}
 use Rattle.model.specs.declared.Step.{Step}
 use Rattle.model.specs.State.{view}
-use Rattle.model.proofs.laws.SoundLaws.{sound-facts, entries-fit}
 use Rattle.engine.specs.declared.spot.Subject.{Subject}
 use Rattle.engine.specs.declared.spot.Turn.{Turn}
 use Rattle.engine.specs.Spots.{Within, Sees, putBack}
@@ -153,11 +152,7 @@ module _ (b : tie.After-channel-count) where
       }
 
 plain-channels-requires : tie.Need-plain-channels-requires
-unfolding view
-plain-channels-requires c κs =
-    let k = here (made (c .before)) in
-    let facts = sound-facts (view (s k)) (admitted k .sound) in
-    record { number = inside k .channels; entries = λ c l. omega (arith, entries-fit (view (s k)) facts c l) }
+plain-channels-requires c κs = inside (here (made (c .before))) .channels
 
 written-back : (j : tie.Joined2)
     → let t = made (j .before) in

@@ -90,7 +90,7 @@ power-lost c =
     (rw (l .log .ensures .needed) at (c .before .if4 .taken)) (c .stopped .ensures)
 
 after-requires : tie.Need-after-requires
-after-requires c κs = let q = p (roomy (logged (c .before))) in (fits q, decided q .there)
+after-requires c κs = fits (p (roomy (logged (c .before))))
 
 received : tie.Need-returns-5
 received c =

@@ -12,7 +12,7 @@ use Rattle.model.specs.Channel.{entries, noRoomForMessage}
 use Rattle.model.specs.State.{GlobalState}
 use Rattle.model.specs.Change.{setEntries, withChannel}
 use Rattle.model.specs.Step.{priorChecks, roomChecks, logChecks, ownChecks, effect, quietly}
-use Rattle.rules.proofs.Room.{place-for-message}
+use Rattle.rules.proofs.Room.{message-pushed}
 use Rattle.engine.specs.declared.spot.Spot.{Spot}
 use Rattle.engine.specs.Spots.{Sees, putBack}
 use Rattle.engine.proofs.Views.{same-state}
@@ -42,9 +42,6 @@ returns c =
 room : (c : tie.Else1) → noRoomForMessage (entries (c .before .before .before .args .s .held)) ≡ false
 room c = sym (c .before .no-room-for-message .ensures) ∙ c .if1 .left
 
-push-requires : tie.Need-push-requires
-push-requires c κs = place-for-message _ (room c)
-
 returns-2 : tie.Need-returns-2
 unfolding effect putBack setEntries withChannel
 returns-2 c =
@@ -52,7 +49,13 @@ returns-2 c =
     let s = pushed .before .before .before .before .args .s in
     let b = pushed .before .before .before .before .args .body in
     quiet-went _ _ (c .went .ensures) refl refl refl (λ g v. own s b g v (room (pushed .before)))
-    (λ g v. rw (here s b g v .process, v .held, v .tag, ← (pushed .push .ensures), ← (c .before .room .ensures))
+    (λ g v. rw (
+      here s b g v .process,
+      v .held,
+      v .tag,
+      ← (pushed .push .ensures ∙ message-pushed _ _ (room (pushed .before))),
+      ← (c .before .room .ensures),
+    )
     (ap (quietly (says.sent (c .before .room .result)))
     (same-state refl (v .round) (sym (same-word v)) (sym (same-tag v)) refl (sym (same-progress v))
     (sym (same-counts v)))))
@@ -60,5 +63,5 @@ returns-2 c =
 pub send-spec : {M : Type 1} → statement M
 send-spec =
     tie.close
-    (tie.spec (λ c κs. search needs) (λ c κs. search needs) returns push-requires (λ c κs. search needs)
+    (tie.spec (λ c κs. search needs) (λ c κs. search needs) returns (λ c κs. search needs) (λ c κs. search needs)
     (λ c κs. search needs) returns-2)

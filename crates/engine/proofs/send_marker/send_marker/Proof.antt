@@ -13,7 +13,7 @@ use Rattle.model.specs.Channel.{entries, noRoomForMarker}
 use Rattle.model.specs.State.{GlobalState}
 use Rattle.model.specs.Change.{setEntries, recordSent, withChannel, withProgress, withSent}
 use Rattle.model.specs.Step.{maySendMarker, priorChecks, roomChecks, logChecks, ownChecks, effect, quietly}
-use Rattle.rules.proofs.Room.{place-for-marker}
+use Rattle.rules.proofs.Room.{marker-pushed}
 use Rattle.engine.specs.declared.spot.Spot.{Spot}
 use Rattle.engine.specs.Spots.{Sees, putBack}
 use Rattle.engine.proofs.Views.{same-state}
@@ -71,16 +71,13 @@ returns-2 c =
 room : (d : tie.Else2) → noRoomForMarker (entries (spot (d .before .before .before) .held)) ≡ false
 room d = sym (d .before .no-room-for-marker .ensures) ∙ d .if2 .left
 
-push-requires : tie.Need-push-requires
-push-requires c κs = place-for-marker _ (room c)
-
 returns-3 : tie.Need-returns-3
 unfolding effect putBack setEntries recordSent withChannel withProgress withSent
 returns-3 c =
     let pushed = c .before in
     quiet-went _ _ (c .went .ensures) refl refl refl
     (λ g v. own _ g v (allowed (pushed .before .before .before .before)) (room (pushed .before)))
-    (λ g v. rw (v .held, ← (pushed .push .ensures))
+    (λ g v. rw (v .held, ← (pushed .push .ensures ∙ marker-pushed _ _ (room (pushed .before))))
     (ap (quietly says.done)
     (same-state refl (v .round) (sym (same-word v)) (sym (same-tag v)) refl
     (same-flags (sym (same-logical v)) (sym (same-closed v)) refl) (sym (same-counts v)))))
@@ -89,4 +86,4 @@ pub send-marker-spec : {M : Type 1} → statement M
 send-marker-spec =
     tie.close
     (tie.spec (λ c κs. search needs) (λ c κs. search needs) returns (λ c κs. search needs) (λ c κs. search needs)
-    returns-2 push-requires (λ c κs. search needs) returns-3)
+    returns-2 (λ c κs. search needs) (λ c κs. search needs) returns-3)
