@@ -1,6 +1,6 @@
 -- Laws that the proofs of several functions cite.
 pub mod Requests
-pub mod Turns
+pub mod Serving
 pub mod Sessions
 pub mod Lines
 pub mod Opening

@@ -17,7 +17,7 @@ use Rattle.report.specs.Appends.{Appends}
 use Rattle.report.specs.TextBytes.{lineBytes}
 use Rattle.report.specs.Text.{saidLine, linesText}
 use Rattle.report.proofs.Appending.{nothing, _then_, at-most}
-use Rattle.session.specs.declared.serve.Turn.{Turn}
+use Rattle.session.specs.declared.serve.Cursor.{Cursor}
 use Rattle.session.specs.Serving.{served, Serves, Prints}
 use Rattle.model.proofs.Readings.{request-after, fewer, bytes-after, fuel}
 
@@ -55,35 +55,35 @@ Leads n here out at n₀ all out₀ at₀ =
     (after : List ℕ) (r : ℕ) (s : GlobalState) (left : List ℕ) → Prints n here out at after r s left
     → Prints n₀ all out₀ at₀ after r s left
 
-module _ (source : BudgetSource) (T : Topology) (turn : Turn) (store bytes : List ℕ) {out : List ℕ} {n₀ : ℕ}
+module _ (source : BudgetSource) (T : Topology) (cursor : Cursor) (store bytes : List ℕ) {out : List ℕ} {n₀ : ℕ}
     {all : Session} {out₀ : List ℕ} {at₀ : ℕ}
     (leads :
-    Leads (length bytes) (sessionFrom source T (turn .number) (view (turn .state)) store bytes) out (turn .at)
+    Leads (length bytes) (sessionFrom source T (cursor .number) (view (cursor .state)) store bytes) out (cursor .at)
     n₀ all out₀ at₀) where
   abbrev n : ℕ
-  n = turn .number
+  n = cursor .number
 
   abbrev s : GlobalState
-  s = view (turn .state)
+  s = view (cursor .state)
 
-  pub leads-to-end : length bytes ≤ 0 → Prints n₀ all out₀ at₀ out (turn .at) s store
+  pub leads-to-end : length bytes ≤ 0 → Prints n₀ all out₀ at₀ out (cursor .at) s store
   unfolding linesText
   leads-to-end l =
-      leads out (turn .at) s store
+      leads out (cursor .at) s store
       (rw (ended source T n s store bytes l)
-      (record { text = at-most (nothing out (turn .at)) (omega arith); state = refl; store = refl }))
+      (record { text = at-most (nothing out (cursor .at)) (omega arith); state = refl; store = refl }))
 
   pub leads-to-break : {after : List ℕ} {r : ℕ} → 0 < length bytes → readRequest source bytes ≡ none
-      → Appends lineBytes out (turn .at) (saidLine n (refused 7) 0) after r → Prints n₀ all out₀ at₀ after r s store
+      → Appends lineBytes out (cursor .at) (saidLine n (refused 7) 0) after r → Prints n₀ all out₀ at₀ after r s store
   unfolding linesText brokenLine
   leads-to-break {after} {r} l e t =
       leads after r s store
       (rw (broken source T n s store bytes l e)
       (record { text = rw append-nil (at-most t (omega arith)); state = refl; store = refl }))
 
-  pub leads-on : {out′ : List ℕ} {next : Turn} {store′ : List ℕ} (q : Request) (after : List ℕ) → AreBytes bytes
+  pub leads-on : {out′ : List ℕ} {next : Cursor} {store′ : List ℕ} (q : Request) (after : List ℕ) → AreBytes bytes
       → readRequest source bytes ≡ some (q, after)
-      → Serves turn (served T turn store (q .budget) (q .content)) out out′ next store′
+      → Serves cursor (served T cursor store (q .budget) (q .content)) out out′ next store′
       → Leads (length after) (sessionFrom source T (next .number) (view (next .state)) store′ after) out′ (next .at)
       n₀ all out₀ at₀
   unfolding linesText lineThen

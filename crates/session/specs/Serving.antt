@@ -9,18 +9,19 @@ use Rattle.model.specs.Program.{Served, Session, serve}
 use Rattle.report.specs.Appends.{Appends}
 use Rattle.report.specs.TextBytes.{lineBytes}
 use Rattle.report.specs.Text.{lineText, linesText}
-use Rattle.session.specs.declared.serve.Turn.{Turn}
+use Rattle.session.specs.declared.serve.Cursor.{Cursor}
 use Rattle.session.specs.Output.{requestsBytes}
 
--- what is said of a record in this turn
-abbrev pub served : Topology → Turn → List ℕ → ℕ → Record → Served
-served T turn store budget r = serve T (view (turn .state)) store budget r
+-- what is said of a record at this place of the session
+abbrev pub served : Topology → Cursor → List ℕ → ℕ → Record → Served
+served T cursor store budget r = serve T (view (cursor .state)) store budget r
 
--- The line of the request that was served is appended to the buffer, the store is left so, and this turn comes next.
-pub record Serves (turn : Turn) (x : Served) (before after : List ℕ) (next : Turn) (left : List ℕ) : Type 0 where
-  pub text : Appends lineBytes before (turn .at)
-      (lineText (record { number = turn .number; said = x .said; made = x .made })) after (next .at)
-  pub number : next .number ≡ turn .number + 1
+-- The line of the request that was served is appended to the buffer, the store is left so, and the session goes on from
+-- the next place.
+pub record Serves (cursor : Cursor) (x : Served) (before after : List ℕ) (next : Cursor) (left : List ℕ) : Type 0 where
+  pub text : Appends lineBytes before (cursor .at)
+      (lineText (record { number = cursor .number; said = x .said; made = x .made })) after (next .at)
+  pub number : next .number ≡ cursor .number + 1
   pub state : view (next .state) ≡ x .state
   pub store : left ≡ x .store
 

@@ -26,10 +26,10 @@ fn run(
 {
     let started = engine::initialize(topology, store);
     let state = started.state;
-    let turn = serve::requests(source, topology, state, records, store, out);
-    let last = turn.state;
+    let cursor = serve::requests(source, topology, state, records, store, out);
+    let last = cursor.state;
     let words = last.words;
-    let at = ending::processes(topology.processes, words, out, turn.at);
+    let at = ending::processes(topology.processes, words, out, cursor.at);
     let places = last.places;
     let lengths = last.lengths;
     ending::channels(topology.channels, places, lengths, out, at)

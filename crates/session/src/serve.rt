@@ -16,37 +16,37 @@ ghost use Rattle.model.specs.Program.{inputBytes, sessionFrom};
 ghost use Rattle.session.specs.RequestRead.{sourceOf};
 ghost use Rattle.session.specs.Serving.{served, Serves, Prints};
 
-// What comes next: a line's number, where it goes, and the state that its request is served in.
-pub struct Turn {
+// Where a session stands: the number of its next line, where that goes, and the state that its request is served in.
+pub struct Cursor {
     pub number: u32,
     pub at: usize,
     pub state: State,
 }
 
 // A recover. Where it is refused, the state is kept.
-fn recover(topology: Topology, turn: Turn, store: &[u32], out: &mut [u8]) -> Turn
-    requires { ⌜ turn .number ≤ inputBytes ⌝ }
-    ensures { λ r. ⌜ Serves turn (served topology turn (now (store .entry)) 0 Recover)
+fn recover(topology: Topology, cursor: Cursor, store: &[u32], out: &mut [u8]) -> Cursor
+    requires { ⌜ cursor .number ≤ inputBytes ⌝ }
+    ensures { λ r. ⌜ Serves cursor (served topology cursor (now (store .entry)) 0 Recover)
         (now (out .entry)) (now (out .exit)) r (now (store .entry)) ⌝ }
 {
-    let number = turn.number;
+    let number = cursor.number;
     let started = recovery::recover(topology, store);
     let start = started.start;
     match start {
         Start::Ready => {
             let state = started.state;
             let round = state.round;
-            let at = report::recover_line(out, turn.at, number, round.line);
-            Turn {
+            let at = report::recover_line(out, cursor.at, number, round.line);
+            Cursor {
                 number: number + 1,
                 at,
                 state,
             }
         }
         Start::Refused(r) => {
-            let at = report::outcome_line(out, turn.at, number, Outcome::Refused(r), 0);
-            let state = turn.state;
-            Turn {
+            let at = report::outcome_line(out, cursor.at, number, Outcome::Refused(r), 0);
+            let state = cursor.state;
+            Cursor {
                 number: number + 1,
                 at,
                 state,
@@ -58,25 +58,25 @@ fn recover(topology: Topology, turn: Turn, store: &[u32], out: &mut [u8]) -> Tur
 // One request.
 fn serve(
     topology: Topology,
-    turn: Turn,
+    cursor: Cursor,
     record: Record,
     budget: u32,
     store: &mut [u32],
     out: &mut [u8],
-) -> Turn
-    requires { ⌜ turn .number ≤ inputBytes ⌝ }
-    ensures { λ r. ⌜ Serves turn (served topology turn (now (store .entry)) budget «record»)
+) -> Cursor
+    requires { ⌜ cursor .number ≤ inputBytes ⌝ }
+    ensures { λ r. ⌜ Serves cursor (served topology cursor (now (store .entry)) budget «record»)
         (now (out .entry)) (now (out .exit)) r (now (store .exit)) ⌝ }
 {
     let Record::Call(step) = record else {
-        return recover(topology, turn, store, out);
+        return recover(topology, cursor, store, out);
     };
-    let number = turn.number;
-    let answer = engine::step(turn.state, step, store, budget);
+    let number = cursor.number;
+    let answer = engine::step(cursor.state, step, store, budget);
     let outcome = answer.outcome;
-    let at = report::outcome_line(out, turn.at, number, outcome, answer.made);
+    let at = report::outcome_line(out, cursor.at, number, outcome, answer.made);
     let next = answer.state;
-    Turn {
+    Cursor {
         number: number + 1,
         at,
         state: next,
@@ -91,13 +91,13 @@ pub fn requests(
     bytes: &[u8],
     store: &mut [u32],
     out: &mut [u8],
-) -> Turn
+) -> Cursor
     requires { ⌜ length (now bytes) ≤ inputBytes ⌝ }
     ensures { λ r. ⌜ Prints (length (now (bytes .entry)))
         (sessionFrom (sourceOf source) topology 1 (view state) (now (store .entry)) (now (bytes .entry)))
         (now (out .entry)) 0 (now (out .exit)) (r .at) (view (r .state)) (now (store .exit)) ⌝ }
 {
-    let mut turn = Turn {
+    let mut cursor = Cursor {
         number: 1,
         at: 0,
         state,
@@ -106,14 +106,14 @@ pub fn requests(
     while 0 < left.len() {
         let RequestRead::Read(record, budget) = request::read(source, left) else {
             let refused = Outcome::Refused(Refusal::Malformed);
-            let at = report::outcome_line(out, turn.at, turn.number, refused, 0);
-            turn.at = at;
+            let at = report::outcome_line(out, cursor.at, cursor.number, refused, 0);
+            cursor.at = at;
             break;
         };
         let after = request::rest(source, left);
         left = after;
-        let next = serve(topology, turn, record, budget, store, out);
-        turn = next;
+        let next = serve(topology, cursor, record, budget, store, out);
+        cursor = next;
     }
-    turn
+    cursor
 }

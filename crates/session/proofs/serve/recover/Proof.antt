@@ -2,7 +2,7 @@
 use borrow.Author.Needs.{needs}
 use mathlib.Core.Path.{ap}
 use Rattle.model.specs.Outcome.{startRefusal}
-use Rattle.session.proofs.Turns.{recover-served, recover-refused}
+use Rattle.session.proofs.Serving.{recover-served, recover-refused}
 use Rattle.session.proofs.serve.recover.Statement.{statement}
 use Rattle.session.proofs.serve.recover.Tie as tie
 

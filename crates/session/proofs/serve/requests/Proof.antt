@@ -12,7 +12,7 @@ use Rattle.model.specs.Record.{AreBytes}
 use Rattle.model.specs.State.{view}
 use Rattle.model.specs.Program.{Request, Session, inputBytes, readRequest, sessionFrom}
 use Rattle.session.specs.declared.request.BudgetSource.{BudgetSource}
-use Rattle.session.specs.declared.serve.Turn.{Turn}
+use Rattle.session.specs.declared.serve.Cursor.{Cursor}
 use Rattle.session.specs.RequestRead.{sourceOf}
 use Rattle.model.proofs.Readings.{After, request-after, fewer, bytes-after}
 use Rattle.session.proofs.Requests.{no-request, read-whole}
@@ -20,26 +20,26 @@ use Rattle.session.proofs.Sessions.{Leads, leads-to-end, leads-to-break
 use Rattle.session.proofs.serve.requests.Statement.{statement}
 use Rattle.session.proofs.serve.requests.Tie as tie
 
--- the session from a turn on
-abbrev from : BudgetSource → Topology → Turn → List ℕ → List ℕ → Session
-from source topology turn store left =
-    sessionFrom (sourceOf source) topology (turn .number) (view (turn .state)) store left
+-- the session from a place on
+abbrev from : BudgetSource → Topology → Cursor → List ℕ → List ℕ → Session
+from source topology cursor store left =
+    sessionFrom (sourceOf source) topology (cursor .number) (view (cursor .state)) store left
 
--- what holds in a turn
-record InTurn (n₀ : ℕ) (all here : Session) (store₀ store out₀ out left : List ℕ) (turn : Turn) : Type 0 where
-  lines : turn .number + length left ≤ inputBytes + 1
+-- what holds at each place
+record AtCursor (n₀ : ℕ) (all here : Session) (store₀ store out₀ out left : List ℕ) (cursor : Cursor) : Type 0 where
+  lines : cursor .number + length left ≤ inputBytes + 1
   bytes : AreBytes left
   store-length : length store ≡ length store₀
   out-length : length out ≡ length out₀
-  leads : Leads (length left) here out (turn .at) n₀ all out₀ 0
+  leads : Leads (length left) here out (cursor .at) n₀ all out₀ 0
 
 abbrev Inv-loop : tie.InvT-loop
-Inv-loop source topology bytes store₀ out₀ turn₀ left₀ store out turn left =
-    InTurn (length bytes) (from source topology turn₀ store₀ bytes) (from source topology turn store left)
-    store₀ store out₀ out left turn
+Inv-loop source topology bytes store₀ out₀ cursor₀ left₀ store out cursor left =
+    AtCursor (length bytes) (from source topology cursor₀ store₀ bytes) (from source topology cursor store left)
+    store₀ store out₀ out left cursor
 
 abbrev μ-loop : tie.MeasureT-loop
-μ-loop source topology bytes store₀ out₀ turn₀ left₀ store out turn left = length left
+μ-loop source topology bytes store₀ out₀ cursor₀ left₀ store out cursor left = length left
 
 loop-holds : tie.Need-loop-holds Inv-loop μ-loop
 loop-holds c =

@@ -1,7 +1,7 @@
 -- `serve::serve` meets its contract: a recover, or a step.
 use borrow.Author.Needs.{needs}
 use Rattle.model.specs.Program.{serve}
-use Rattle.session.proofs.Turns.{step-served}
+use Rattle.session.proofs.Serving.{step-served}
 use Rattle.session.proofs.serve.serve.Statement.{statement}
 use Rattle.session.proofs.serve.serve.Tie as tie
 
