@@ -109,10 +109,7 @@ fn receive(s: State, channel: u8, store: &mut [u32], budget: u32) -> Answer {
     let Entry::Message { body, tag } = first(s.channels[at]) else {
         return marker(s, at);
     };
-    match log_for(&s, at, tag) {
-        None => unlogged(s, at, body),
-        Some(log) => logged(s, at, body, log, store, budget),
-    }
+    message(s, at, body, tag, store, budget)
 }
 
 fn marker(mut s: State, at: usize) -> Answer {
@@ -131,39 +128,50 @@ fn marker(mut s: State, at: usize) -> Answer {
     Answer { outcome: Outcome::ReceivedMarker, made: 0, state: s }
 }
 
-fn unlogged(mut s: State, at: usize, body: u32) -> Answer {
+fn message(
+    mut s: State,
+    at: usize,
+    body: u32,
+    tag: bool,
+    store: &mut [u32],
+    budget: u32,
+) -> Answer {
     let to = s.topology.to[at] as usize;
-    s.channels[at] = pop(s.channels[at]);
-    s.words[to] = enter(s.words[to], at as u32, body);
-    if s.round.phase == Phase::Logical && !s.flags.logical[to] {
-        s = set_logical(s, to);
-    }
-    Answer { outcome: Outcome::Received(body), made: 0, state: s }
-}
-
-fn logged(mut s: State, at: usize, body: u32, log: Log, store: &mut [u32], budget: u32) -> Answer {
-    let count = count_of(&s.counts, log);
-    if count >= room(log) {
+    let logs = logs_for(&s, at, tag);
+    if any_full(&s.counts, logs) {
         return refused(Refusal::LogFull, s);
     }
+    let (mut left, mut writes) = (budget, 0);
+    for log in logs.into_iter().flatten() {
+        left = append(&s, log, at, body, store, left);
+        writes += entry_cells(log) as u32 + 1;
+    }
+    if budget < writes {
+        return power_lost(budget, s);
+    }
+    for log in logs.into_iter().flatten() {
+        s.counts = raised(s.counts, log);
+    }
+    if marks(&s, to, tag) {
+        s = set_logical(s, to);
+    }
+    s.channels[at] = pop(s.channels[at]);
+    s.words[to] = enter(s.words[to], at as u32, body);
+    Answer { outcome: Outcome::Received(body), made: writes, state: s }
+}
+
+/// The entry and the raised count into the log, as far as the power lasts; what is left of it.
+fn append(s: &State, log: Log, at: usize, body: u32, store: &mut [u32], budget: u32) -> u32 {
+    let count = count_of(&s.counts, log);
     let cell = count_cell(s.round.line + 1, log);
-    let cells = entry_cells(log);
-    let place = cell + 1 + cells * count as usize;
+    let place = cell + 1 + entry_cells(log) * count as usize;
     let mut left = budget;
     put(store, &mut left, place, body);
     if let Log::Messages(_) = log {
         put(store, &mut left, place + 1, at as u32);
     }
     put(store, &mut left, cell, count as u32 + 1);
-    let writes = cells as u32 + 1;
-    if budget < writes {
-        return power_lost(budget, s);
-    }
-    let to = s.topology.to[at] as usize;
-    s.channels[at] = pop(s.channels[at]);
-    s.words[to] = enter(s.words[to], at as u32, body);
-    s.counts = raised(s.counts, log);
-    Answer { outcome: Outcome::Received(body), made: writes, state: s }
+    left
 }
 
 fn raised(mut counts: Counts, log: Log) -> Counts {
@@ -187,29 +195,38 @@ fn begin(mut s: State, store: &mut [u32], budget: u32) -> Answer {
         return power_lost(budget, s);
     }
     s.counts = NO_COUNTS;
-    s.round.phase = Phase::Physical(0);
-    done(writes, s)
+    done(writes, physical_from(s, 0))
+}
+
+/// The physical checkpoints go on with the first early process from this one on; where there is none, the logical phase
+/// starts.
+fn physical_from(mut s: State, from: u8) -> State {
+    if let Some(next) = s.topology.next_early(from) {
+        s.round.phase = Phase::Physical(next);
+    } else {
+        s.round.phase = Phase::Logical;
+        s.flags = NO_FLAGS;
+    }
+    s
 }
 
 fn physical_checkpoint(mut s: State, process: u8, store: &mut [u32], budget: u32) -> Answer {
     if process >= s.topology.processes {
         return refused(Refusal::NoSuch, s);
     }
-    if s.round.phase != Phase::Physical(process) {
+    if !physical_due(&s, process) {
         return refused(Refusal::NotNow, s);
     }
-    let cell = physical_cell(s.round.line + 1, process as usize);
+    let at = process as usize;
     let mut left = budget;
-    put(store, &mut left, cell, s.words[process as usize]);
+    put(store, &mut left, physical_cell(s.round.line + 1, at), s.words[at]);
     if budget < 1 {
         return power_lost(budget, s);
     }
-    if process + 1 < s.topology.processes {
-        s.round.phase = Phase::Physical(process + 1);
-    } else {
-        s.round.phase = Phase::Logical;
-        s.flags = NO_FLAGS;
+    if !s.topology.is_late(at) {
+        return done(1, physical_from(s, process + 1));
     }
+    s.flags.saved[at] = true;
     done(1, s)
 }
 
@@ -243,11 +260,7 @@ fn send_marker(mut s: State, channel: u8) -> Answer {
 }
 
 fn commit(mut s: State, store: &mut [u32], budget: u32) -> Answer {
-    let (processes, channels) = (s.topology.processes as usize, s.topology.channels as usize);
-    let through = s.round.phase == Phase::Logical
-        && s.flags.logical[..processes].iter().all(|&f| f)
-        && s.flags.closed[..channels].iter().all(|&f| f);
-    if !through {
+    if !through(&s) {
         return refused(Refusal::NotNow, s);
     }
     let line = s.round.line + 1;

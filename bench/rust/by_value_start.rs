@@ -9,8 +9,7 @@ pub struct Started {
 }
 
 fn blank() -> State {
-    let topology = Topology { processes: 0, channels: 0, from: [0; CHANNELS], to: [0; CHANNELS] };
-    State::idle(topology, 0)
+    State::idle(Topology::sized(0, 0), 0)
 }
 
 /// Document 01's setup.
@@ -31,10 +30,8 @@ pub fn recover(t: Topology, store: &[u32]) -> Started {
         return Started { start: Err(refusal), state: blank() };
     }
     let line = store[LINE_CELL];
-    let mut state = State::idle(t, line);
-    state.words = words(t, store);
-    state.channels = channels(t, store);
-    Started { start: Ok(()), state }
+    let (words, channels) = (words(t, store), channels(t, store));
+    Started { start: Ok(()), state: State { words, channels, ..State::idle(t, line) } }
 }
 
 fn words(t: Topology, store: &[u32]) -> [u32; PROCESSES] {
@@ -42,7 +39,7 @@ fn words(t: Topology, store: &[u32]) -> [u32; PROCESSES] {
     let mut words = [0; PROCESSES];
     for p in 0..t.processes as usize {
         let word = store[physical_cell(line, p)];
-        words[p] = replay(word, store, message_count_cell(line, p));
+        words[p] = restore(t.is_late(p), word, store, message_count_cell(line, p));
     }
     words
 }

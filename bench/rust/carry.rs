@@ -1,7 +1,7 @@
 //! A store carried from the form of document 01 to that of M-101, and back, as one would write it today; the two Rust
 //! programs do it alike, since there is no state in it.
 
-use crate::rules::{bodies, check, replay, CHANNEL_PLACES, LINE_CELL, MESSAGE_PLACES};
+use crate::rules::{bodies, check, restore, CHANNEL_PLACES, LINE_CELL, MESSAGE_PLACES};
 use crate::types::*;
 
 #[derive(Clone, Copy)]
@@ -43,7 +43,7 @@ impl Form {
         start + (1 + CHANNEL_PLACES as usize) * channel
     }
 
-    /// Refusals 1 to 6, then 16.
+    /// Refusals 1 to 5 and 19, 6, then 16.
     fn check_source(self, t: &Topology, source: &[u32]) -> Result<(), Refusal> {
         check(t)?;
         if source.len() < self.store_cells() {
@@ -63,12 +63,13 @@ impl Form {
         Ok(())
     }
 
-    /// The word of the process whose record begins in a cell: its log replayed by the form's rule.
-    fn word(self, source: &[u32], at: usize) -> u32 {
+    /// The word of the process whose record begins in a cell, by the form's rule: the old form's logs hold no
+    /// anti-messages, whether the process is late or not.
+    fn word(self, late: bool, source: &[u32], at: usize) -> u32 {
         let old_enter = |word: u32, body: &u32| word.wrapping_mul(31).wrapping_add(*body);
         match self {
             Form::Old => bodies(source, at + 1).iter().fold(source[at], old_enter),
-            Form::Present => replay(source[at], source, at + 1),
+            Form::Present => restore(late, source[at], source, at + 1),
         }
     }
 }
@@ -86,7 +87,7 @@ pub fn carry(
     let line = source[LINE_CELL];
     for p in 0..t.processes as usize {
         let at = to.physical_cell(line, p);
-        target[at] = from.word(source, from.physical_cell(line, p));
+        target[at] = from.word(t.is_late(p), source, from.physical_cell(line, p));
         target[at + 1] = 0;
     }
     for c in 0..t.channels as usize {

@@ -190,17 +190,14 @@ pub fn run<E: Engine>() {
     std::io::stdin().read_to_end(&mut input).unwrap();
     let (mode, times) = (input[0], number(&input[1..5]));
     let channels = input[6] as usize;
-    let mut t = Topology {
-        processes: input[5],
-        channels: input[6],
-        from: [0; CHANNELS],
-        to: [0; CHANNELS],
-    };
+    let mut t = Topology::sized(input[5], input[6]);
     for c in 0..channels {
         t.from[c] = input[7 + 2 * c];
         t.to[c] = input[8 + 2 * c];
     }
-    let rest = &mut input[7 + 2 * channels..];
+    let map = 7 + 2 * channels;
+    t.late = u16::from_le_bytes([input[map], input[map + 1]]);
+    let rest = &mut input[map + 2..];
     let sum = match mode {
         STEPS => steps::<E>(&t, times, rest),
         RECOVER => recovers::<E>(&t, times, rest),

@@ -43,6 +43,15 @@ impl Channel {
     }
 }
 
+impl Counts {
+    fn raise(&mut self, log: Log) {
+        match log {
+            Log::Messages(p) => self.messages[p] += 1,
+            Log::Channel(c) => self.channels[c] += 1,
+        }
+    }
+}
+
 enum Stop {
     Refused(Refusal),
     PowerLost,
@@ -132,9 +141,15 @@ impl State {
             self.channels[at].pop();
             return Ok(Outcome::ReceivedMarker);
         };
-        if let Some(log) = log_for(self, at, tag) {
+        let logs = logs_for(self, at, tag);
+        require(!any_full(&self.counts, logs), Refusal::LogFull)?;
+        for log in logs.into_iter().flatten() {
             self.append(log, at, body, power)?;
-        } else if logical && !self.flags.logical[to] {
+        }
+        for log in logs.into_iter().flatten() {
+            self.counts.raise(log);
+        }
+        if marks(self, to, tag) {
             self.set_logical(to);
         }
         self.channels[at].pop();
@@ -142,10 +157,9 @@ impl State {
         Ok(Outcome::Received(body))
     }
 
-    /// The entry and the raised count into the log, or 11.
-    fn append(&mut self, log: Log, at: usize, body: u32, power: &mut Power) -> Result<(), Stop> {
+    /// The entry and the raised count into the log.
+    fn append(&self, log: Log, at: usize, body: u32, power: &mut Power) -> Result<(), Stop> {
         let count = count_of(&self.counts, log);
-        require(count < room(log), Refusal::LogFull)?;
         let cell = count_cell(self.round.line + 1, log);
         let cells = entry_cells(log);
         let place = cell + 1 + cells * count as usize;
@@ -153,12 +167,7 @@ impl State {
         if let Log::Messages(_) = log {
             power.put(place + 1, at as u32)?;
         }
-        power.put(cell, count as u32 + 1)?;
-        match log {
-            Log::Messages(p) => self.counts.messages[p] += 1,
-            Log::Channel(c) => self.counts.channels[c] += 1,
-        }
-        Ok(())
+        power.put(cell, count as u32 + 1)
     }
 
     fn begin(&mut self, power: &mut Power) -> Result<(), Stop> {
@@ -172,22 +181,32 @@ impl State {
             power.put(channel_count_cell(line, c), 0)?;
         }
         self.counts = NO_COUNTS;
-        self.round.phase = Phase::Physical(0);
+        self.physical_from(0);
         Ok(())
     }
 
     fn physical_checkpoint(&mut self, process: u8, power: &mut Power) -> Result<(), Stop> {
         require(process < self.topology.processes, Refusal::NoSuch)?;
-        require(self.round.phase == Phase::Physical(process), Refusal::NotNow)?;
-        let cell = physical_cell(self.round.line + 1, process as usize);
-        power.put(cell, self.words[process as usize])?;
-        if process + 1 < self.topology.processes {
-            self.round.phase = Phase::Physical(process + 1);
+        require(physical_due(self, process), Refusal::NotNow)?;
+        let at = process as usize;
+        power.put(physical_cell(self.round.line + 1, at), self.words[at])?;
+        if self.topology.is_late(at) {
+            self.flags.saved[at] = true;
+        } else {
+            self.physical_from(process + 1);
+        }
+        Ok(())
+    }
+
+    /// The physical checkpoints go on with the first early process from this one on; where there is none, the logical
+    /// phase starts.
+    fn physical_from(&mut self, from: u8) {
+        if let Some(next) = self.topology.next_early(from) {
+            self.round.phase = Phase::Physical(next);
         } else {
             self.round.phase = Phase::Logical;
             self.flags = NO_FLAGS;
         }
-        Ok(())
     }
 
     fn set_logical(&mut self, process: usize) {
@@ -217,11 +236,7 @@ impl State {
     }
 
     fn commit(&mut self, power: &mut Power) -> Result<(), Stop> {
-        let (processes, channels) = (self.topology.processes, self.topology.channels);
-        let through = self.round.phase == Phase::Logical
-            && self.flags.logical[..processes as usize].iter().all(|&f| f)
-            && self.flags.closed[..channels as usize].iter().all(|&f| f);
-        require(through, Refusal::NotNow)?;
+        require(through(self), Refusal::NotNow)?;
         power.put(LINE_CELL, self.round.line + 1)?;
         self.round = Round { line: self.round.line + 1, phase: Phase::Idle };
         self.flags = NO_FLAGS;
@@ -257,7 +272,7 @@ impl State {
         *self = State::idle(*t, line);
         for p in 0..t.processes as usize {
             let word = store[physical_cell(line, p)];
-            self.words[p] = replay(word, store, message_count_cell(line, p));
+            self.words[p] = restore(t.is_late(p), word, store, message_count_cell(line, p));
         }
         for c in 0..t.channels as usize {
             let bodies = bodies(store, channel_count_cell(line, c));

@@ -19,8 +19,7 @@ const COMMIT: Record = Record::Call(Step::Commit);
 
 /// A plan with these channels.
 fn plan(processes: u8, ends: &[(u8, u8)]) -> Topology {
-    let channels = ends.len() as u8;
-    let mut t = Topology { processes, channels, from: [0; CHANNELS], to: [0; CHANNELS] };
+    let mut t = Topology::sized(processes, ends.len() as u8);
     for (c, &(from, to)) in ends.iter().enumerate() {
         (t.from[c], t.to[c]) = (from, to);
     }

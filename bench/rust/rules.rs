@@ -1,6 +1,7 @@
 //! What both Rust programs read alike: the layout of the store, the checks of a topology, of a state and of a store's
-//! counts, the word rule, and which log a message needs. Each looks at its arguments through `&`. A receipt is the
-//! channel and the body that a receive brings; a message log has receipts, a channel log bodies.
+//! counts, the word rule and how it is undone, when a process may have its physical checkpoint and a round is through,
+//! and which logs a message needs. Each looks at its arguments through `&`. A receipt is the channel and the body that
+//! a receive brings; a message log has receipts, a channel log bodies.
 
 use crate::types::*;
 
@@ -31,7 +32,16 @@ pub fn enter(word: u32, channel: u32, body: u32) -> u32 {
     with_channel.wrapping_mul(31).wrapping_add(body)
 }
 
-/// Refusals 1 to 5, in one pass over the channels: the table says which ends an earlier one has.
+/// The inverse of 31 modulo 2^32.
+const OVER_THIRTY_ONE: u32 = 3186588639;
+
+/// The word before a receipt entered it.
+pub fn leave(word: u32, channel: u32, body: u32) -> u32 {
+    let with_channel = word.wrapping_sub(body).wrapping_mul(OVER_THIRTY_ONE);
+    with_channel.wrapping_sub(channel).wrapping_mul(OVER_THIRTY_ONE)
+}
+
+/// Refusals 1 to 5, in one pass over the channels: the table says which ends an earlier one has; then 19.
 pub fn check(t: &Topology) -> Result<(), Refusal> {
     if !(1..=PROCESSES as u8).contains(&t.processes) {
         return Err(Refusal::ProcessCount);
@@ -54,6 +64,9 @@ pub fn check(t: &Topology) -> Result<(), Refusal> {
         }
         seen[ends] = true;
     }
+    if u32::from(t.late) >> t.processes != 0 {
+        return Err(Refusal::UnknownLate);
+    }
     Ok(())
 }
 
@@ -65,7 +78,10 @@ pub fn sound(s: &State) -> bool {
     let (processes, channels) = (s.topology.processes as usize, s.topology.channels as usize);
     let round = match s.round.phase {
         Phase::Idle => true,
-        Phase::Physical(next) => next < s.topology.processes && s.round.line != u32::MAX,
+        Phase::Physical(next) => {
+            let planned = next < s.topology.processes && !s.topology.is_late(next as usize);
+            planned && s.round.line != u32::MAX
+        }
         Phase::Logical => s.round.line != u32::MAX,
     };
     round
@@ -74,7 +90,7 @@ pub fn sound(s: &State) -> bool {
         && s.counts.channels[..channels].iter().all(|&n| n <= CHANNEL_PLACES)
 }
 
-/// Refusals 1 to 6, then 16: what a recover asks of a topology and a store.
+/// Refusals 1 to 5 and 19, 6, then 16: what a recover asks of a topology and a store.
 pub fn check_store(t: &Topology, store: &[u32]) -> Result<(), Refusal> {
     check(t)?;
     if store.len() < STORE_CELLS {
@@ -94,10 +110,15 @@ pub fn check_store(t: &Topology, store: &[u32]) -> Result<(), Refusal> {
     Ok(())
 }
 
-/// A word after the receipts, each a body and a channel, of the message log whose count stands in a cell.
-pub fn replay(word: u32, store: &[u32], at: usize) -> u32 {
+/// What the message log whose count stands in a cell makes of its process's physical checkpoint: receipts, each a body
+/// and a channel, enter it; of a late process they leave it, the last one first.
+pub fn restore(late: bool, word: u32, store: &[u32], at: usize) -> u32 {
     let (receipts, _) = store[at + 1..at + 1 + 2 * store[at] as usize].as_chunks();
-    receipts.iter().fold(word, |word, &[body, channel]| enter(word, channel, body))
+    if late {
+        receipts.iter().rfold(word, |word, &[body, channel]| leave(word, channel, body))
+    } else {
+        receipts.iter().fold(word, |word, &[body, channel]| enter(word, channel, body))
+    }
 }
 
 /// The bodies of the channel log whose count stands in a cell.
@@ -111,18 +132,48 @@ pub enum Log {
     Channel(usize),
 }
 
-/// The log that a message with this tag needs, received on the channel.
-pub fn log_for(s: &State, channel: usize, tag: bool) -> Option<Log> {
-    let to = s.topology.to[channel] as usize;
-    match s.round.phase {
-        Phase::Idle => None,
-        Phase::Physical(next) => (to < next as usize).then_some(Log::Messages(to)),
-        Phase::Logical => match (s.flags.logical[to], tag == s.tags[to]) {
-            (true, false) => Some(Log::Channel(channel)),
-            (false, true) => Some(Log::Messages(to)),
-            _ => None,
-        },
+/// Whether a process may have its physical checkpoint now: a late one once it has its logical one, one time in a round.
+pub fn physical_due(s: &State, process: u8) -> bool {
+    let at = process as usize;
+    if s.topology.is_late(at) {
+        s.round.phase == Phase::Logical && s.flags.logical[at] && !s.flags.saved[at]
+    } else {
+        s.round.phase == Phase::Physical(process)
     }
+}
+
+/// Whether every process has its checkpoints, and every channel is closed.
+pub fn through(s: &State) -> bool {
+    let (processes, channels) = (s.topology.processes as usize, s.topology.channels as usize);
+    let has_physical = |p| !s.topology.is_late(p) || s.flags.saved[p];
+    s.round.phase == Phase::Logical
+        && (0..processes).all(|p| s.flags.logical[p] && has_physical(p))
+        && s.flags.closed[..channels].iter().all(|&f| f)
+}
+
+/// Whether a message with this tag gives its receiver the logical checkpoint.
+pub fn marks(s: &State, to: usize, tag: bool) -> bool {
+    s.round.phase == Phase::Logical && !s.flags.logical[to] && tag != s.tags[to]
+}
+
+/// The logs that a message with this tag needs, received on the channel, in the order in which they are written: that
+/// of the channel, that of the receiver.
+pub fn logs_for(s: &State, channel: usize, tag: bool) -> [Option<Log>; 2] {
+    let to = s.topology.to[channel] as usize;
+    let late = s.topology.is_late(to);
+    let (marked, differs) = (s.flags.logical[to], tag != s.tags[to]);
+    let (in_channel, in_messages) = match s.round.phase {
+        Phase::Idle => (false, false),
+        Phase::Physical(next) => (false, to < next as usize && !late),
+        Phase::Logical if late => (marked && differs, (marked || differs) && !s.flags.saved[to]),
+        Phase::Logical => (marked && differs, !marked && !differs),
+    };
+    [in_channel.then_some(Log::Channel(channel)), in_messages.then_some(Log::Messages(to))]
+}
+
+/// Whether one of these logs has no place left.
+pub fn any_full(counts: &Counts, logs: [Option<Log>; 2]) -> bool {
+    logs.into_iter().flatten().any(|log| count_of(counts, log) >= room(log))
 }
 
 pub fn count_of(counts: &Counts, log: Log) -> u8 {

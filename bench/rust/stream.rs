@@ -19,7 +19,7 @@ impl Random {
 
 /// Each channel from a process to one of those after it, in a ring.
 pub fn plan(processes: u8, channels: u8) -> Topology {
-    let mut t = Topology { processes, channels, from: [0; CHANNELS], to: [0; CHANNELS] };
+    let mut t = Topology::sized(processes, channels);
     for c in 0..channels {
         t.from[c as usize] = c % processes;
         t.to[c as usize] = (c % processes + 1 + c / processes) % processes;
@@ -32,6 +32,7 @@ pub fn plan_bytes(t: &Topology) -> Vec<u8> {
     for c in 0..t.channels as usize {
         bytes.extend([t.from[c], t.to[c]]);
     }
+    bytes.extend(t.late.to_le_bytes());
     bytes
 }
 

@@ -5,6 +5,7 @@ pub const PROCESSES: usize = 16;
 pub const CHANNELS: usize = 64;
 pub const ROOM: usize = 8;
 
+/// Bit p of `late` stands where process p is late.
 #[repr(C)]
 #[derive(Clone, Copy)]
 pub struct Topology {
@@ -12,6 +13,7 @@ pub struct Topology {
     pub channels: u8,
     pub from: [u8; CHANNELS],
     pub to: [u8; CHANNELS],
+    pub late: u16,
 }
 
 #[derive(Clone, Copy, PartialEq)]
@@ -47,6 +49,7 @@ pub struct Channel {
 #[derive(Clone, Copy)]
 pub struct Flags {
     pub logical: [bool; PROCESSES],
+    pub saved: [bool; PROCESSES],
     pub closed: [bool; CHANNELS],
     pub sent: [bool; CHANNELS],
 }
@@ -109,6 +112,7 @@ pub enum Refusal {
     BadCount,
     NothingRefused,
     LongList,
+    UnknownLate,
 }
 
 #[derive(Clone, Copy)]
@@ -123,10 +127,30 @@ pub enum Outcome {
 
 pub const EMPTY: Channel = Channel { bodies: [0; ROOM], kinds: [0; ROOM], count: 0 };
 
-pub const NO_FLAGS: Flags =
-    Flags { logical: [false; PROCESSES], closed: [false; CHANNELS], sent: [false; CHANNELS] };
+pub const NO_FLAGS: Flags = Flags {
+    logical: [false; PROCESSES],
+    saved: [false; PROCESSES],
+    closed: [false; CHANNELS],
+    sent: [false; CHANNELS],
+};
 
 pub const NO_COUNTS: Counts = Counts { messages: [0; PROCESSES], channels: [0; CHANNELS] };
+
+impl Topology {
+    /// So many processes, none late, and channels, each with both ends at process 0.
+    pub fn sized(processes: u8, channels: u8) -> Topology {
+        Topology { processes, channels, from: [0; CHANNELS], to: [0; CHANNELS], late: 0 }
+    }
+
+    pub fn is_late(&self, process: usize) -> bool {
+        self.late >> process & 1 == 1
+    }
+
+    /// The first process from this one on that isn't late.
+    pub fn next_early(&self, from: u8) -> Option<u8> {
+        (from..self.processes).find(|&p| !self.is_late(p as usize))
+    }
+}
 
 impl State {
     /// The idle state at a line: no progress, no log counts, words and tags 0, channels empty.

@@ -82,6 +82,7 @@ pub fn work(name: &str, units: usize, times: u32, mode: u8, t: &Topology, data: 
 }
 
 /// The steps at three plans, the recover, the records read and written, stores carried to the present form and back.
+/// All processes are early, but those of a recover that is measured beside the other.
 pub fn works() -> Vec<Work> {
     let mut all = Vec::new();
     let mut last = Vec::new();
@@ -94,6 +95,8 @@ pub fn works() -> Vec<Work> {
     let t = stream::plan(16, 64);
     let full = stream::full_store(&t, Form::Present);
     all.push(work("recover, every log full", 1, 80_000, 2, &t, &full));
+    let late = Topology { late: u16::MAX, ..t };
+    all.push(work("recover, every log full, all late", 1, 80_000, 2, &late, &full));
     let records = stream::records(&last);
     all.push(work("records read", last.len(), 2000, 3, &t, &records));
     all.push(work("records written", last.len(), 3000, 4, &t, &stream::script(&last)));

@@ -2,6 +2,7 @@
 
 use crate::carried;
 use crate::judge;
+use crate::plans;
 use crate::runner;
 use crate::seen::{Seen, AS_LONG, LONGER};
 use crate::watcher::Watcher;
@@ -50,6 +51,9 @@ impl Binaries {
 
 /// Byte for byte, with demand 3.
 fn hold(path: &Path, program: Program, bytes: &[u8], seen: &mut Seen) -> Option<Failure> {
+    for sight in plans::refused("plan refused", bytes) {
+        seen.count(program, sight);
+    }
     let mut watcher = Watcher::new(program, seen);
     let expected = program::run(program, bytes, &mut watcher);
     let why = watcher.fault;

@@ -6,8 +6,9 @@ use crate::directed::pair;
 use crate::plans;
 use crate::rng::Rng;
 use crate::seen::Seen;
-use crate::walk::{Style, Walk};
-use reference::forms::{NEW, OLD};
+use crate::style::Style;
+use crate::walk::Walk;
+use reference::forms::{Form, NEW, OLD};
 use reference::history::Histories;
 use reference::migrate::{carry, Carriage, DOWNGRADE, UPGRADE};
 use reference::program::{call, rubbish, Program, Unwatched};
@@ -35,27 +36,29 @@ pub fn old_layout() -> bool {
 
 /// Demand 3 after every call of random runs by the old rules.
 pub fn old_runs() -> bool {
-    (0..12).all(|number| {
-        let mut rng = Rng::new(102, number);
-        let (topology, style) = (plans::whole(&mut rng), Style::random(&mut rng));
-        let cells = rubbish(OLD.cells);
-        let mut walk = Walk::on(&mut rng, Program::Drill, OLD, &topology, cells, style);
-        walk.go(300);
-        let mut cells = rubbish(OLD.cells);
-        let mut state = State::initialize(OLD, &topology, &mut cells).expect("a whole plan");
-        let mut histories = Histories::new(OLD, &topology);
-        walk.calls.iter().all(|&(budget, record)| {
-            let answer = call(&mut state, &mut cells, record, u64::from(budget));
-            histories.feed(record, answer.outcome);
-            histories.check(&cells).is_ok()
-        })
+    (0..12).all(|number| demand_holds(OLD, &mut Rng::new(102, number), plans::whole))
+}
+
+/// Demand 3 after every call of a random run by the rules of this form, on a plan
+/// of this kind, by the reference's own books and by nobody else's answers.
+pub fn demand_holds(form: Form, rng: &mut Rng, plan: fn(&mut Rng) -> Topology) -> bool {
+    let (topology, style) = (plan(rng), Style::random(rng));
+    let mut walk = Walk::on(rng, Program::Drill, form, &topology, rubbish(form.cells), style);
+    walk.go(300);
+    let mut cells = rubbish(form.cells);
+    let mut state = State::initialize(form, &topology, &mut cells).expect("a whole plan");
+    let mut histories = Histories::new(form, &topology);
+    walk.calls.iter().all(|&(budget, record)| {
+        let answer = call(&mut state, &mut cells, record, u64::from(budget));
+        histories.feed(record, answer.outcome);
+        histories.check(&cells).is_ok()
     })
 }
 
-/// The order of refusals: 1 to 5, 6 and 16 of the source, then 6 of the target,
-/// and no cell is touched.
+/// The order of refusals: 1, as those of a plan, then 6 and 16 of the source, then
+/// 6 of the target, and no cell is touched.
 pub fn refusals() -> bool {
-    let unplanned = Topology { processes: 0, channels: Vec::new() };
+    let unplanned = Topology::early(0, Vec::new());
     let mut over = vec![0; OLD.cells];
     over[OLD.message_log(0, 1)] = 65;
     let (short, sound) = (&over[1..], vec![0; OLD.cells]);
@@ -171,11 +174,12 @@ pub fn wrong() -> bool {
 pub fn refused_lines() -> bool {
     let mut over = store();
     over[OLD.message_log(1, 1)] = 65;
-    let one = Topology { processes: 1, channels: Vec::new() };
-    let answers: [(Vec<u8>, &str); 6] = [
+    let one = Topology::early(1, Vec::new());
+    let answers: [(Vec<u8>, &str); 7] = [
         (vec![], "refused 7\n"),
         (vec![4, 1, 0], "refused 7\n"),
         (vec![UPGRADE, 0, 0], "plan refused 1\n"),
+        (vec![UPGRADE, 1, 0, 2, 0], "plan refused 19\n"),
         (input(DOWNGRADE, &pair(), &store()), "refused 6\n"),
         (input(UPGRADE, &pair(), &over), "refused 16\n"),
         ([&input(UPGRADE, &one, &store())[..], &[0]].concat(), "refused 7\n"),
@@ -194,11 +198,10 @@ pub fn refused_lines() -> bool {
     })
 }
 
-/// A plan with one wire and 16,383 cells: the last byte that is taken completes
+/// A plan with two wires and 16,382 cells: the last byte that is taken completes
 /// them, and none after it is seen.
 pub fn last_byte() -> bool {
-    let one_wire = Topology { processes: 2, channels: vec![(0, 1)] };
-    let whole = input(UPGRADE, &one_wire, &[0; 16_383]);
+    let whole = input(UPGRADE, &pair(), &[0; 16_382]);
     let said = |program, input: &[u8]| {
         let output = reference::program::run(program, input, &mut Unwatched);
         output.strip_prefix(DONE).map(|cells| cells.len()).ok_or(output)

@@ -3,6 +3,8 @@
 
 use crate::carries;
 use crate::directed::{LISTING, LISTING_OUTPUT};
+use crate::late_cases;
+use crate::rig::{copy, mark, note, receive, send, Rig};
 use crate::verdicts;
 use reference::forms::NEW;
 use reference::program::{self, Program, Unwatched};
@@ -13,104 +15,62 @@ use reference::topology::Topology;
 
 type Case = (&'static str, fn() -> bool);
 
+const CASES: [Case; 44] = [
+    ("the listing", listing),
+    ("one board gives line 1", one_board),
+    ("8th entry passes, 9th send is 9; empty wire is 10", wire_full),
+    ("a send answers the room left, a note takes some", room_left),
+    ("64th logged take passes, 65th is 11", message_log_full),
+    ("8th logged take of a wire log passes, 9th is 11", channel_log_full),
+    ("finish with 0 and 1 stores", finish_cut),
+    ("begin with 3 and 4 stores", begin_cut),
+    ("words", words),
+    ("words by which wire was first", wire_order),
+    ("a logged wire of any number", any_wire),
+    ("records", records),
+    ("0 and 17 boards are 1, 16 pass", boards),
+    ("give up after step 6", give_up),
+    ("the last line numbers: 13", last_line),
+    ("a note on a closed wire: 14", note_on_closed),
+    ("unsound states: 15", unsound),
+    ("short stores: 6", short_store),
+    ("counts over their places: 16", counts_over),
+    ("order of refusals", order),
+    ("3,186,588,639 times 31 is 1; a take undone", late_cases::undone),
+    ("a late bit for a board not in the plan: 19", late_cases::nineteen),
+    ("unsound states with late boards: 15", late_cases::unsound),
+    ("a round with a late board", late_cases::round),
+    ("all boards late", late_cases::all_late),
+    ("a take into two logs with 0 to 5 stores", late_cases::two_logs),
+    ("the wire log before the board log", late_cases::order_of_logs),
+    ("anti-messages undone in reverse order", late_cases::reverse_order),
+    ("a late board's log of either form", late_cases::both_forms),
+    ("demand 3 of runs with late boards", late_cases::runs),
+    ("lines of console", verdicts::lines),
+    ("the last byte that console takes", verdicts::last_byte),
+    ("right answers of console", verdicts::right),
+    ("wrong answers of console", verdicts::wrong),
+    ("words by the old rule", carries::old_words),
+    ("the old store's layout", carries::old_layout),
+    ("demand 3 of runs by the old rules", carries::old_runs),
+    ("a store to be carried: order of refusals", carries::refusals),
+    ("a target with further cells", carries::longer_target),
+    ("a store carried by hand", carries::right),
+    ("stores carried wrongly", carries::wrong),
+    ("stores carried back wrongly", carries::wrong_way_back),
+    ("lines of a store that isn't carried", carries::refused_lines),
+    ("the last byte of a store that is taken", carries::last_byte),
+];
+
 /// Tries every case: how many there are, or the names of those that fail.
 pub fn all() -> Result<usize, Vec<&'static str>> {
-    let cases: [Case; 34] = [
-        ("the listing", listing),
-        ("one board gives line 1", one_board),
-        ("8th entry passes, 9th send is 9; empty wire is 10", wire_full),
-        ("a send answers the room left, a note takes some", room_left),
-        ("64th logged take passes, 65th is 11", message_log_full),
-        ("8th logged take of a wire log passes, 9th is 11", channel_log_full),
-        ("finish with 0 and 1 stores", finish_cut),
-        ("begin with 3 and 4 stores", begin_cut),
-        ("words", words),
-        ("words by which wire was first", wire_order),
-        ("a logged wire of any number", any_wire),
-        ("records", records),
-        ("0 and 17 boards are 1, 16 pass", boards),
-        ("give up after step 6", give_up),
-        ("the last line numbers: 13", last_line),
-        ("a note on a closed wire: 14", note_on_closed),
-        ("unsound states: 15", unsound),
-        ("short stores: 6", short_store),
-        ("counts over their places: 16", counts_over),
-        ("order of refusals", order),
-        ("lines of console", verdicts::lines),
-        ("the last byte that console takes", verdicts::last_byte),
-        ("right answers of console", verdicts::right),
-        ("wrong answers of console", verdicts::wrong),
-        ("words by the old rule", carries::old_words),
-        ("the old store's layout", carries::old_layout),
-        ("demand 3 of runs by the old rules", carries::old_runs),
-        ("a store to be carried: order of refusals", carries::refusals),
-        ("a target with further cells", carries::longer_target),
-        ("a store carried by hand", carries::right),
-        ("stores carried wrongly", carries::wrong),
-        ("stores carried back wrongly", carries::wrong_way_back),
-        ("lines of a store that isn't carried", carries::refused_lines),
-        ("the last byte of a store that is taken", carries::last_byte),
-    ];
     let failed: Vec<_> =
-        cases.iter().filter(|(_, holds)| !holds()).map(|(name, _)| *name).collect();
+        CASES.iter().filter(|(_, holds)| !holds()).map(|(name, _)| *name).collect();
     if failed.is_empty() {
-        Ok(cases.len())
+        Ok(CASES.len())
     } else {
         Err(failed)
     }
-}
-
-/// A state on a pair of processes with a channel each way, and its store.
-struct Rig {
-    state: State,
-    store: Vec<u32>,
-}
-
-impl Rig {
-    fn new(processes: usize, channels: &[(usize, usize)]) -> Rig {
-        let topology = Topology { processes, channels: channels.to_vec() };
-        let mut store = vec![u32::MAX; NEW.cells];
-        let state = State::initialize(NEW, &topology, &mut store).expect("a whole plan");
-        Rig { state, store }
-    }
-
-    fn pair() -> Rig {
-        Rig::new(2, &[(0, 1), (1, 0)])
-    }
-
-    fn step(&mut self, step: Step) -> Outcome {
-        self.state.step(step, &mut self.store, u64::MAX).outcome
-    }
-
-    fn done(&mut self, steps: &[Step]) -> bool {
-        let done = |outcome| matches!(outcome, Outcome::Done | Outcome::Sent(_));
-        steps.iter().all(|&step| done(self.step(step)))
-    }
-
-    /// So many sends leave room for fewer and fewer entries, the last for so many.
-    fn filling(&mut self, channel: usize, sends: usize, last: usize) -> bool {
-        (0..sends).rev().all(|more| self.step(send(channel, 1)) == Outcome::Sent(last + more))
-    }
-
-    fn recovered(&self) -> State {
-        State::recover(NEW, &self.state.topology, &self.store).expect("a sound store")
-    }
-}
-
-const fn send(channel: usize, body: u32) -> Step {
-    Step::Send { channel, body }
-}
-const fn receive(channel: usize) -> Step {
-    Step::Receive { channel }
-}
-const fn copy(process: usize) -> Step {
-    Step::PhysicalCheckpoint { process }
-}
-const fn mark(process: usize) -> Step {
-    Step::LogicalCheckpoint { process }
-}
-const fn note(channel: usize) -> Step {
-    Step::SendMarker { channel }
 }
 
 fn listing() -> bool {
@@ -212,7 +172,7 @@ fn records() -> bool {
 }
 
 fn boards() -> bool {
-    let check = |processes| Topology { processes, channels: Vec::new() }.check();
+    let check = |processes| Topology::early(processes, Vec::new()).check();
     check(0) == Err(1) && check(17) == Err(1) && check(16) == Ok(())
 }
 

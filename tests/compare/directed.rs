@@ -3,23 +3,23 @@
 use crate::lists::List;
 use crate::plans;
 use crate::walk::{encode, Call};
-use reference::program::{Program, INPUT};
+use reference::program::Program;
 use reference::record::Record;
 use reference::steps::Step;
 use reference::topology::Topology;
 
-const FULL: u32 = u32::MAX;
-const BOTH: [Program; 2] = [Program::Head, Program::Drill];
+pub const FULL: u32 = u32::MAX;
+pub const BOTH: [Program; 2] = [Program::Head, Program::Drill];
 
 /// Document 01's input and output.
-pub const LISTING: &[u8] = b"\x02\x02\x00\x01\x01\x00\x01\x03\x01\x04\x03\x04\x01\
+pub const LISTING: &[u8] = b"\x02\x02\x00\x01\x01\x00\x00\x00\x01\x03\x01\x04\x03\x04\x01\
     \x0D\x01\x01\x05\x00\x00\x00\x01\x05\x09\x01\x07\x00\x00\x00\x01\x02\x05\x02\x01\
     \x01\x06\x05\x06\x01\x01\x02\x05\x02\x01\x01\x07\x01\x09";
 pub const LISTING_OUTPUT: &str = "1 done 4\n2 done 1\n3 done 1\n4 sent 7 0\n5 done 0\n\
     6 sent 7 0\n7 took 7 0\n8 took 5 2\n9 done 0\n10 done 0\n11 note 0\n12 note 0\n\
     13 done 1\n14 line 1 0\nboard 0 0\nboard 1 0\nwire 0 0\nwire 1 1 5\n";
 
-fn list(name: String, program: Program, bytes: Vec<u8>) -> List {
+pub fn list(name: String, program: Program, bytes: Vec<u8>) -> List {
     List { name, program, bytes }
 }
 
@@ -32,7 +32,7 @@ pub fn calls() -> Vec<List> {
         let bytes = encode(program, &pair(), &rounds(12));
         lists.push(list(format!("{program:?}: twelve rounds"), program, bytes));
     }
-    begin_cuts(&mut lists);
+    begin_cuts(&mut lists, &plans::largest());
     round_cuts(&mut lists);
     for program in BOTH {
         wire_orders(&mut lists, program);
@@ -45,115 +45,8 @@ pub fn calls() -> Vec<List> {
     lists
 }
 
-/// Those that are about bytes: the listing damaged, plans, records, and the input's length.
-pub fn bytes() -> Vec<List> {
-    let mut lists = Vec::new();
-    for program in BOTH {
-        let listing = listing(program);
-        damages(&mut lists, program, &listing);
-        plan_bytes(&mut lists, program);
-        record_bytes(&mut lists, program);
-        lengths(&mut lists, program);
-    }
-    lists
-}
-
-/// The listing; for `drill` with full power before each record.
-fn listing(program: Program) -> Vec<u8> {
-    let (topology, mut rest) = Topology::read(LISTING).expect("the listing's plan");
-    let mut calls = Vec::new();
-    while !rest.is_empty() {
-        let (record, remaining) = reference::record::read(rest).expect("the listing's records");
-        calls.push((FULL, record));
-        rest = remaining;
-    }
-    encode(program, &topology, &calls)
-}
-
-/// The listing, each of its beginnings, and each of its bits turned over.
-fn damages(lists: &mut Vec<List>, program: Program, listing: &[u8]) {
-    for length in 0..=listing.len() {
-        let name = format!("{program:?}: first {length} bytes of the listing");
-        lists.push(list(name, program, listing[..length].to_vec()));
-    }
-    for bit in 0..8 * listing.len() {
-        let mut bytes = listing.to_vec();
-        bytes[bit / 8] ^= 1 << (bit % 8);
-        lists.push(list(format!("{program:?}: listing, bit {bit} turned over"), program, bytes));
-    }
-}
-
-/// Numbers of boards and wires at and past their ends, with wires that pass,
-/// that break off, and each way to refuse them.
-fn plan_bytes(lists: &mut Vec<List>, program: Program) {
-    for boards in [0, 1, 2, 15, 16, 17, 255] {
-        for wires in [0, 1, 2, 63, 64, 65, 255] {
-            for missing in [0, 1, 2] {
-                let mut bytes = plans::largest().write();
-                bytes.extend([1, 3, 1, 3]);
-                (bytes[0], bytes[1]) = (boards, wires);
-                let end = (2 + 2 * wires as usize).min(bytes.len());
-                bytes.truncate(end - missing.min(end));
-                let name =
-                    format!("{program:?}: {boards} boards, {wires} wires, {missing} missing");
-                lists.push(list(name, program, bytes));
-            }
-        }
-    }
-    let wires: [&[u8]; 9] = [
-        &[0, 2],
-        &[2, 0],
-        &[2, 2],
-        &[0, 0],
-        &[1, 1],
-        &[0, 1, 0, 1],
-        &[0, 1, 1, 0, 0, 1],
-        &[0, 1, 1, 1, 0, 2],
-        &[0, 1, 0, 2, 0, 1],
-    ];
-    for ends in wires {
-        let mut bytes = vec![2, ends.len() as u8 / 2];
-        bytes.extend(ends);
-        lists.push(list(format!("{program:?}: wires {ends:?}"), program, bytes));
-    }
-}
-
-/// Every bit map with every kind, its fields not 0 or all 0, before a begin.
-fn record_bytes(lists: &mut Vec<List>, program: Program) {
-    for map in (0..32).chain([33, 65, 129, 255]) {
-        for kind in [0, 1, 2, 3, 4, 5, 6, 7, 8, 9, 10, 255] {
-            for fill in [0, 1] {
-                let mut bytes = pair().write();
-                let budget: &[u8] = if program == Program::Drill { &[9, 0, 0, 0] } else { &[] };
-                bytes.extend(budget);
-                bytes.push(map);
-                let sizes = [(1, 1), (2, 1), (4, 1), (8, 4)];
-                for (bit, size) in sizes.into_iter().filter(|(bit, _)| map & bit != 0) {
-                    bytes.extend(std::iter::repeat_n(if bit == 1 { kind } else { fill }, size));
-                }
-                bytes.extend(budget);
-                bytes.extend([1, 3]);
-                let name = format!("{program:?}: map {map}, kind {kind}, fields {fill}");
-                lists.push(list(name, program, bytes));
-            }
-        }
-    }
-}
-
-/// Inputs about as long as a program takes, and much longer ones.
-fn lengths(lists: &mut Vec<List>, program: Program) {
-    for length in [INPUT - 1, INPUT, INPUT + 1, INPUT + 2, 3 * INPUT] {
-        let one = Topology { processes: 1, channels: Vec::new() };
-        let mut calls = vec![(0, Record::Step(Step::Abort)); length / 2];
-        calls[5] = (FULL, Record::Step(Step::Begin));
-        let mut bytes = encode(program, &one, &calls);
-        bytes.truncate(length);
-        lists.push(list(format!("{program:?}: {length} bytes"), program, bytes));
-    }
-}
-
 pub fn pair() -> Topology {
-    Topology { processes: 2, channels: vec![(0, 1), (1, 0)] }
+    Topology::early(2, vec![(0, 1), (1, 0)])
 }
 
 pub fn full(step: Step) -> Call {
@@ -232,7 +125,7 @@ fn refusals() -> Vec<Call> {
 /// Two neighbours' equal bodies, taken in either order at every place of a round
 /// before its notes. Then a recover.
 fn wire_orders(lists: &mut Vec<List>, program: Program) {
-    let topology = Topology { processes: 3, channels: vec![(1, 0), (2, 0)] };
+    let topology = Topology::early(3, vec![(1, 0), (2, 0)]);
     let send = |channel| full(Step::Send { channel, body: 5 });
     let receive = |channel| full(Step::Receive { channel });
     let round: Vec<Call> = copies(3).chain(end_round(&topology, 0)).collect();
@@ -251,14 +144,14 @@ fn wire_orders(lists: &mut Vec<List>, program: Program) {
 
 /// Power lost after every count of stores of a begin on the largest plan, with
 /// and without a recover after it.
-fn begin_cuts(lists: &mut Vec<List>) {
+pub fn begin_cuts(lists: &mut Vec<List>, topology: &Topology) {
     for recover in [false, true] {
         let mut calls = Vec::new();
         for budget in 0..=80 {
             calls.push((budget, Record::Step(Step::Begin)));
             calls.extend(recover.then_some((0, Record::Recover)));
         }
-        let bytes = encode(Program::Drill, &plans::largest(), &calls);
+        let bytes = encode(Program::Drill, topology, &calls);
         let name = "Drill: begin cut after 0 to 79 stores".to_string();
         lists.push(list(name, Program::Drill, bytes));
     }

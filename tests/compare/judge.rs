@@ -1,8 +1,10 @@
 //! Judges what `console` prints. Which smallest part comes back is left open, so
 //! a part is held against M-100's definition; all else is told byte for byte.
 
-use crate::seen::{Seen, Sight, IN_A_PART};
-use crate::watcher;
+use crate::plans;
+use crate::rules;
+use crate::seen::{Seen, Sight};
+use crate::wanted::IN_A_PART;
 use reference::console::{Question, REDUCE};
 use reference::program::Program;
 use reference::record;
@@ -17,7 +19,9 @@ pub fn judge(input: &[u8], output: &[u8], seen: &mut Seen) -> Result<(), String>
             count_part(&question, &part, seen);
         }
         Err(line) if line.as_bytes() == output => {
-            seen.count(Program::Console, why_refused(input, &line));
+            for sight in why_refused(input, &line) {
+                seen.count(Program::Console, sight);
+            }
         }
         Err(line) => return Err(format!("not the line {}", line.trim_end())),
     }
@@ -43,11 +47,11 @@ fn place(line: &str) -> Option<usize> {
 }
 
 /// What counts as seen where a line is printed instead of a part.
-fn why_refused(input: &[u8], line: &str) -> Sight {
+fn why_refused(input: &[u8], line: &str) -> Vec<Sight> {
     let number = line.trim_end().rsplit(' ').next().and_then(|number| number.parse().ok());
     let number = number.expect("a line ends with a number");
     let what = match (line.strip_prefix("plan "), number, input) {
-        (Some(_), ..) => return ("plan refused", "", number),
+        (Some(_), ..) => return plans::refused("plan refused", &input[1..]),
         (_, 7, []) => "no input",
         (_, 7, [first, ..]) if *first != REDUCE => "nothing known is asked",
         (_, 7, _) if whole_records(input) > MOST => "record, after 256",
@@ -55,7 +59,7 @@ fn why_refused(input: &[u8], line: &str) -> Sight {
         (_, 17, _) => "no call is refused",
         _ => "over 256 calls",
     };
-    ("refused", what, number)
+    vec![("refused", what, number)]
 }
 
 /// How many records can be read.
@@ -74,7 +78,7 @@ fn count_part(question: &Question, part: &[usize], seen: &mut Seen) {
     let (calls, kept) = (list.calls.len(), part.len());
     let refused = list.calls[list.first.place];
     let mut count = |sight| seen.count(Program::Console, sight);
-    count(watcher::refusal(watcher::rule(&list.state, refused), refused, list.first.number));
+    count(rules::refusal(rules::rule(&list.state, refused), refused, list.first.number));
     count(("part of", size(kept), 0));
     for room in list.rooms(part).into_iter().flatten() {
         count(("sent", IN_A_PART, room as u64));

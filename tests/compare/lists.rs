@@ -2,13 +2,29 @@
 
 use crate::plans;
 use crate::rng::Rng;
-use crate::walk::{encode, Style, Walk};
+use crate::style::Style;
+use crate::walk::{encode, Walk};
 use reference::program::{Program, INPUT};
+use reference::topology::Topology;
 
 pub struct List {
     pub name: String,
     pub program: Program,
     pub bytes: Vec<u8>,
+}
+
+impl List {
+    /// The byte that says what is asked of `console` and `converter`.
+    pub fn asked(&self) -> Option<u8> {
+        let asks = matches!(self.program, Program::Console | Program::Converter);
+        self.bytes.first().copied().filter(|_| asks)
+    }
+
+    /// Its plan, where that passes.
+    pub fn topology(&self) -> Option<Topology> {
+        let bytes = &self.bytes[usize::from(self.asked().is_some())..];
+        Some(Topology::read(bytes).ok()?.0)
+    }
 }
 
 /// The last two of every so many lists are long enough to go past the input's end.

@@ -12,25 +12,34 @@
 //! are spent on making a failing input smaller.
 
 mod binaries;
+mod bytes;
+mod calls;
 mod carried;
 mod carries;
 mod cases;
 mod directed;
+mod found;
 mod judge;
+mod late;
+mod late_cases;
 mod lists;
 mod migrations;
 mod plans;
 mod questions;
 mod reductions;
+mod rig;
 mod rng;
+mod rules;
 mod runner;
 mod seen;
 mod shrink;
 mod sights;
 mod simplify;
 mod sources;
+mod style;
 mod verdicts;
 mod walk;
+mod wanted;
 mod watcher;
 
 use binaries::{Binaries, PROGRAMS};
@@ -90,7 +99,7 @@ fn tell(binaries: &Binaries, list: &List, shrinking: Duration) {
         return;
     };
     println!("smallest input found for {:?}, {} bytes:", list.program, bytes.len());
-    println!("{}", simplify::text(&bytes).unwrap_or_else(|| hexadecimal(&bytes)));
+    println!("{}", simplify::text(list.program, &bytes).unwrap_or_else(|| hexadecimal(&bytes)));
     let expected = readable(list.program, &failure.expected);
     println!("the reference prints:\n{}", beginning(&expected));
     match &failure.got {
@@ -118,16 +127,16 @@ fn random(seed: u64, number: u64) -> impl Iterator<Item = List> {
     lists.into_iter()
 }
 
-/// All lists through both, the many about bytes last; the number of lists, or none where one fails.
-fn compare_all(order: &Order, seen: &mut Seen) -> Option<u64> {
-    let first: [fn() -> Vec<List>; 4] =
-        [directed::calls, migrations::reached, reductions::all, migrations::others];
-    let random = (0..order.lists).flat_map(|number| random(order.seed, number));
-    let last = directed::bytes().into_iter().chain(reductions::bytes());
+/// Lists through both; the number of lists, or none where one fails.
+fn compare_each(
+    order: &Order,
+    seen: &mut Seen,
+    lists: impl Iterator<Item = List>,
+    look: fn(&mut Seen, &List),
+) -> Option<u64> {
     let mut agree = 0;
-    let named = |list: &List| order.binaries.path(list.program).is_some();
-    for list in first.into_iter().flat_map(|lists| lists()).chain(random).chain(last).filter(named)
-    {
+    for list in lists.filter(|list| order.binaries.path(list.program).is_some()) {
+        look(seen, &list);
         if order.binaries.compare(list.program, &list.bytes, seen).is_some() {
             tell(&order.binaries, &list, order.shrinking);
             return None;
@@ -135,6 +144,18 @@ fn compare_all(order: &Order, seen: &mut Seen) -> Option<u64> {
         agree += 1;
     }
     Some(agree)
+}
+
+/// All lists, the many about bytes last.
+fn compare_all(order: &Order, seen: &mut Seen) -> Option<u64> {
+    let first: [fn() -> Vec<List>; 5] =
+        [directed::calls, late::all, migrations::reached, reductions::all, migrations::others];
+    let first = first.into_iter().flat_map(|lists| lists());
+    let random = (0..order.lists).flat_map(|number| random(order.seed, number));
+    let last = bytes::all().into_iter().chain(reductions::bytes());
+    let agree = compare_each(order, seen, first, |_, _| ())?;
+    let agree = agree + compare_each(order, seen, random, Seen::count_random)?;
+    Some(agree + compare_each(order, seen, last, |_, _| ())?)
 }
 
 fn arguments() -> Option<Order> {
@@ -178,13 +199,12 @@ fn main() -> ExitCode {
         return ExitCode::FAILURE;
     };
     let tried = PROGRAMS.into_iter().filter(|&program| order.binaries.path(program).is_some());
-    let sights = match seen.report(tried) {
-        Ok(sights) => sights,
-        Err(missing) => {
-            println!("compare: {}", missing.join("\ncompare: "));
-            return ExitCode::FAILURE;
-        }
-    };
+    let (sights, mut missing) = seen.report(tried);
+    missing.extend(seen.tell_late());
+    if !missing.is_empty() {
+        println!("compare: {}", missing.join("\ncompare: "));
+        return ExitCode::FAILURE;
+    }
     seen.tell_held();
     println!("{cases} cases of the papers, {sights} sights, {agree} lists");
     println!("passed {}", cases + sights + agree as usize);

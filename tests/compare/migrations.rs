@@ -2,6 +2,7 @@
 //! instead of one, in its order, and stores that chance seldom makes.
 
 use crate::directed::{full_logs, logging_round, pair, LISTING};
+use crate::late;
 use crate::lists::List;
 use crate::plans;
 use crate::sources::Source;
@@ -33,6 +34,7 @@ pub fn reached() -> Vec<List> {
     let mut lists = Vec::new();
     for way in WAYS {
         runs(&mut lists, way);
+        late_runs(&mut lists, way);
     }
     lists
 }
@@ -79,22 +81,59 @@ fn left_by(form: Form, topology: &Topology, calls: &[Call]) -> Source {
 /// After setup, the listing, each call of two rounds that stores something, and
 /// all logs full in the upper half and in both.
 fn runs(lists: &mut Vec<List>, (asked, form, _): Way) {
-    let one = Topology { processes: 1, channels: Vec::new() };
+    let one = Topology::early(1, Vec::new());
     both(lists, "store after setup, one board", left_by(form, &one, &[]).input(asked));
     both(lists, "the listing's store", left_by(form, &pair(), &listing()).input(asked));
     let rounds = logging_round().repeat(2);
-    let mut before = Vec::new();
-    for at in 0..=rounds.len() {
-        let source = left_by(form, &pair(), &rounds[..at]);
-        if source.cells != before {
-            both(lists, &format!("store after {at} calls of two rounds"), source.input(asked));
-        }
-        before = source.cells;
-    }
+    after_each(lists, "calls of two rounds", &rounds, asked, &|calls| {
+        left_by(form, &pair(), calls)
+    });
     let largest = plans::largest();
     for times in 1..=2 {
         let source = left_by(form, &largest, &full_logs(times));
         both(lists, &format!("store with every log full, rounds: {times}"), source.input(asked));
+    }
+}
+
+/// Stores of plans with late boards: after each call of two rounds that stores
+/// something, for each map of a pair, and with all boards late and all logs full.
+/// By the rules of the old form no board is late, and its rounds are those of
+/// early ones.
+fn late_runs(lists: &mut Vec<List>, (asked, form, _): Way) {
+    for map in 1..4 {
+        let topology = late::with_late(pair(), map);
+        let round = if form.anti_messages { late::round(map) } else { logging_round() };
+        let rounds = round.repeat(2);
+        let name = format!("calls of two rounds with map {map}");
+        after_each(lists, &name, &rounds, asked, &|calls| left_by(form, &topology, calls));
+    }
+    let largest = late::with_late(plans::largest(), u16::MAX);
+    for times in 1..=2 {
+        let calls = if form.anti_messages { late::full_logs(times) } else { full_logs(times) };
+        let source = left_by(form, &largest, &calls);
+        both(
+            lists,
+            &format!("all boards late, every log full, rounds: {times}"),
+            source.input(asked),
+        );
+    }
+}
+
+/// The stores that the first calls of a list leave, each where it is another one.
+fn after_each(
+    lists: &mut Vec<List>,
+    name: &str,
+    calls: &[Call],
+    asked: u8,
+    left: &dyn Fn(&[Call]) -> Source,
+) {
+    let mut before = Vec::new();
+    for at in 0..=calls.len() {
+        let source = left(&calls[..at]);
+        if source.cells != before {
+            both(lists, &format!("store after {at} {name}"), source.input(asked));
+        }
+        before = source.cells;
     }
 }
 
@@ -193,23 +232,11 @@ fn lengths(lists: &mut Vec<List>, (asked, form, _): Way) {
 /// Refused plans before stores that would be refused for themselves, and before
 /// one that wouldn't.
 fn refused_plans(lists: &mut Vec<List>, (asked, form, _): Way) {
-    let plans: [&[u8]; 10] = [
-        &[],
-        &[2],
-        &[0, 0],
-        &[17, 0],
-        &[2, 65],
-        &[0, 65],
-        &[2, 1, 0, 2],
-        &[2, 1, 1, 1],
-        &[2, 2, 0, 1, 0, 1],
-        &[2, 2, 0, 2, 1, 1],
-    ];
     let store = vec![0; 4 * form.cells];
-    for plan in plans {
+    let broken: [&[u8]; 5] = [&[], &[2], &[2, 1, 0], &[2, 1, 0, 1], &[2, 1, 0, 2, 0]];
+    for plan in broken.into_iter().chain(plans::REFUSED) {
         for bytes in [0, 1, 2, 3, 4, store.len(), store.len() - 1] {
-            let whole = plan.len() >= 2;
-            let store = if whole { &store[..bytes] } else { &[] };
+            let store = if broken.contains(&plan) { &[] } else { &store[..bytes] };
             let name = format!("plan {plan:?}, then {} bytes", store.len());
             both(lists, &name, [&[asked], plan, store].concat());
         }
@@ -222,7 +249,7 @@ fn refused_plans(lists: &mut Vec<List>, (asked, form, _): Way) {
 }
 
 /// Inputs about as long as is taken. What is taken of a longer one is a plan and
-/// whole cells where the plan has one wire, and never where it has two.
+/// whole cells where the plan has two wires, and never where it has one.
 fn long_inputs(lists: &mut Vec<List>, (asked, form, _): Way) {
     let longest = 1 + INPUT;
     for wires in 1..=2 {

@@ -1,8 +1,12 @@
 //! Fixed lists for `console`: each line that it prints instead of a part, every
 //! kind of first refusal, and lists that are hard to make smaller.
 
-use crate::directed::{self, copies, end_round, full, pair, LISTING};
+use crate::bytes;
+use crate::calls::{self, copy, mark, note, receive, ABORT, BEGIN, COMMIT};
+use crate::directed::{copies, end_round, pair, LISTING};
+use crate::late;
 use crate::lists::List;
+use crate::plans;
 use crate::walk::{encode, Call};
 use reference::console::REDUCE;
 use reference::forms::NEW;
@@ -10,7 +14,7 @@ use reference::program::{Program, INPUT};
 use reference::record::Record;
 use reference::reduce::MOST;
 use reference::state::State;
-use reference::steps::{Outcome, Step};
+use reference::steps::Outcome;
 use reference::topology::Topology;
 
 const RECOVER: Call = (u32::MAX, Record::Recover);
@@ -44,8 +48,7 @@ pub fn bytes() -> Vec<List> {
         program: Program::Console,
         bytes: [&[REDUCE], &head.bytes[..]].concat(),
     };
-    let lists = directed::bytes().into_iter();
-    lists.filter(|list| list.program == Program::Head).map(ask).collect()
+    bytes::all().into_iter().filter(|list| list.program == Program::Head).map(ask).collect()
 }
 
 /// No input, and first bytes that ask for something or for nothing known.
@@ -58,23 +61,8 @@ fn asked(lists: &mut Vec<List>) {
 }
 
 fn send(channel: usize) -> Call {
-    full(Step::Send { channel, body: 3 })
+    calls::send(channel, 3)
 }
-fn receive(channel: usize) -> Call {
-    full(Step::Receive { channel })
-}
-fn copy(process: usize) -> Call {
-    full(Step::PhysicalCheckpoint { process })
-}
-fn mark(process: usize) -> Call {
-    full(Step::LogicalCheckpoint { process })
-}
-fn note(channel: usize) -> Call {
-    full(Step::SendMarker { channel })
-}
-const BEGIN: Call = (u32::MAX, Record::Step(Step::Begin));
-const COMMIT: Call = (u32::MAX, Record::Step(Step::Commit));
-const ABORT: Call = (u32::MAX, Record::Step(Step::Abort));
 
 /// Calls, so many times over.
 fn times(number: usize, calls: &[Call]) -> Vec<Call> {
@@ -102,15 +90,18 @@ pub fn first_refused(calls: &[Call], refused: &[(usize, u8)], place: usize) -> V
     kept.map(|(_, call)| *call).collect()
 }
 
-/// Every refusal of three lists, each as the first one of a list.
+/// Every refusal of three lists and of those of late boards, each as the first one
+/// of a list.
 fn first_refusals(lists: &mut Vec<List>) {
-    for (name, calls) in [("idle", idle()), ("copying", copying()), ("marking", marking())] {
-        let places = refused(&pair(), &calls);
+    let early = [("idle", idle()), ("copying", copying()), ("marking", marking())];
+    let early = early.map(|(name, calls)| (name.to_string(), pair(), calls));
+    for (name, topology, calls) in early.into_iter().chain(late::refused()) {
+        let places = refused(&topology, &calls);
         for &(place, number) in &places {
             let mut calls = first_refused(&calls, &places, place);
             calls.truncate(MOST);
             let name = format!("{name}, call {place} is the first refused, {number}");
-            lists.push(of_calls(&name, &pair(), &calls));
+            lists.push(of_calls(&name, &topology, &calls));
         }
     }
 }
@@ -149,7 +140,7 @@ fn marking() -> Vec<Call> {
 /// Sixteen processes; channel 0 from 0 to 15, channel 1 from 15 to 0, channel 2
 /// between others.
 fn sixteen() -> Topology {
-    Topology { processes: 16, channels: vec![(0, 15), (15, 0), (3, 4)] }
+    Topology::early(16, vec![(0, 15), (15, 0), (3, 4)])
 }
 
 /// Lists whose only smallest part is the whole list, alone, with calls after
@@ -182,14 +173,14 @@ fn whole_parts(lists: &mut Vec<List>) {
 /// Lists of 256 calls of which no single one can be left out, though many
 /// together can; and one of which 2 matter.
 fn single_calls_matter(lists: &mut Vec<List>) {
-    let three = Topology { processes: 3, channels: vec![(0, 1)] };
+    let three = Topology::early(3, vec![(0, 1)]);
     let mut calls = times(121, &[send(0), receive(0)]);
     calls.extend(copies(3));
     calls.push(mark(0));
     calls.extend(times(8, &[send(0)]));
     calls.push(note(0));
     lists.push(of_calls("256 calls: messages, then a full wire", &three, &calls));
-    let one = Topology { processes: 1, channels: Vec::new() };
+    let one = Topology::early(1, Vec::new());
     let mut calls = vec![BEGIN, ABORT];
     calls.extend(times(63, &[BEGIN, copy(0), mark(0), COMMIT]));
     calls.extend([BEGIN, BEGIN]);
@@ -236,6 +227,7 @@ fn one_after_another(lists: &mut Vec<List>) {
 /// Lists of about 256 calls; broken records among them, after them and after
 /// more than 256.
 fn counts(lists: &mut Vec<List>) {
+    let records = 1 + pair().write().len();
     for number in [0, 1, 254, 255, 256, 257, 258, 300, 2000] {
         let calls = times(number, &[RECOVER]);
         lists.push(of_calls(&format!("{number} restarts"), &pair(), &calls));
@@ -246,7 +238,8 @@ fn counts(lists: &mut Vec<List>) {
         for (name, calls) in [("restarts", calls), ("restarts and a refusal", last)] {
             let broken = [&encode(Program::Console, &pair(), &calls)[..], &[1, 0]].concat();
             lists.push(list(&format!("{number} {name}, broken after them"), broken.clone()));
-            let broken = [&broken[..7], &[1, 10], &broken[7..broken.len() - 2]].concat();
+            let broken =
+                [&broken[..records], &[1, 10], &broken[records..broken.len() - 2]].concat();
             lists.push(list(&format!("{number} {name}, broken before them"), broken));
         }
     }
@@ -255,17 +248,8 @@ fn counts(lists: &mut Vec<List>) {
 /// Refused plans before lists that would be refused for themselves: more than
 /// 256 calls, none refused, bytes that aren't records.
 fn refused_plans(lists: &mut Vec<List>) {
-    let plans: [&[u8]; 7] = [
-        &[0, 0],
-        &[17, 0],
-        &[2, 1, 0, 2],
-        &[2, 1, 1, 1],
-        &[2, 2, 0, 1, 0, 1],
-        &[2, 2, 0, 2, 1, 1],
-        &[2, 65],
-    ];
     let records: [&[u8]; 5] = [&[], &[1, 9], &[1, 9].repeat(300), &[1, 0], &[5, 2, 9]];
-    for plan in plans {
+    for plan in plans::REFUSED {
         for records in records {
             let name = format!("plan {plan:?}, then {} bytes", records.len());
             lists.push(list(&name, [&[REDUCE], plan, records].concat()));
@@ -275,7 +259,7 @@ fn refused_plans(lists: &mut Vec<List>) {
 
 /// A list whose last record ends with the last byte that is taken.
 pub fn longest() -> Vec<u8> {
-    let bytes = [&[REDUCE, 1, 0][..], &[1, 9].repeat(INPUT / 2 - 1)].concat();
+    let bytes = [&[REDUCE, 1, 0, 0, 0][..], &[1, 9].repeat(INPUT / 2 - 2)].concat();
     assert_eq!(bytes.len(), 1 + INPUT);
     bytes
 }
@@ -288,6 +272,6 @@ fn lengths(lists: &mut Vec<List>) {
     lists.push(list("a byte less than is taken", whole[..INPUT].to_vec()));
     lists.push(list("whole, then broken past the end", [&whole[..], &[0; 9]].concat()));
     lists.push(list("broken by the last byte", [&whole[..INPUT], &[10]].concat()));
-    let longer = [&[REDUCE, 1, 0, 3, 4, 1][..], &[1, 9].repeat(INPUT / 2)].concat();
+    let longer = [&[REDUCE, 1, 0, 0, 0, 3, 4, 1][..], &[1, 9].repeat(INPUT / 2)].concat();
     lists.push(list("broken only by the end of what is taken", longer));
 }

@@ -1,10 +1,13 @@
 //! What a run must have seen, and how often it saw it.
 
-use crate::sights;
+use crate::lists::List;
+use crate::wanted::{required, AFTER_COPY, AGAIN};
+use reference::console::REDUCE;
+use reference::migrate::DOWNGRADE;
 use reference::program::Program;
 use std::collections::BTreeMap;
 
-/// What was seen: a group, what it was in document 01's words, and a number (a
+/// What was seen: a group, what it was in the documents' words, and a number (a
 /// refusal's, the room that a send left, or the stores made at a lost power).
 pub type Sight = (&'static str, &'static str, u64);
 
@@ -12,51 +15,14 @@ pub type Sight = (&'static str, &'static str, u64);
 pub const AS_LONG: Sight = ("input", "as long as is taken", 0);
 pub const LONGER: Sight = ("input", "longer than is taken", 0);
 
-/// Takes, by document 01's rules.
-pub const PLAIN: &str = "idle, no log";
-pub const PLAIN_COPYING: &str = "copying, receiver not copied, no log";
-pub const COPIED_LOGS: &str = "copying, board log";
-pub const MARKER_MARKS: &str = "marking, note marks the receiver";
-pub const MARKER_CLOSES: &str = "marking, note on a marked receiver";
-pub const MESSAGE_MARKS: &str = "marking, message marks first";
-pub const UNMARKED_LOGS: &str = "marking, equal tags, board log";
-pub const MARKED_PLAIN: &str = "marking, equal tags, no log";
-pub const CHANNEL_LOGS: &str = "marking, different tag, wire log";
-
-/// Takes that log, and the stores that each makes.
-const LOGS: [(&str, u64); 3] = [(COPIED_LOGS, 3), (UNMARKED_LOGS, 3), (CHANNEL_LOGS, 2)];
-
-/// Equal bodies one after the other in a board log, by their wires (M-101).
-pub const LOWER_FIRST: &str = "equal bodies, from the lower wire first";
-pub const HIGHER_FIRST: &str = "equal bodies, from the higher wire first";
-
-/// Sends, by what is on the wire (M-104).
-pub const NO_NOTE: &str = "no note on the wire";
-pub const BESIDE_NOTE: &str = "a note on the wire";
-/// Those of a part that `console` prints.
-pub const IN_A_PART: &str = "in a part";
-
-/// What 12 was the answer to.
-pub const TWELVES: [&str; 13] = [
-    "begin in a round",
-    "copy outside copying",
-    "copy out of order",
-    "mark outside marking",
-    "mark twice",
-    "mark before board 0",
-    "note outside marking",
-    "note before the mark",
-    "note twice",
-    "finish outside marking",
-    "finish, board unmarked",
-    "finish, wire open",
-    "give up when idle",
-];
-
 /// Refusals of a call that no input can bring about: 6, the store has 5,313
 /// cells; 13, an input is too short for so many rounds; 14, 15 and 16, no
 /// reached state or store is like that.
 const NEVER: [u64; 5] = [6, 13, 14, 15, 16];
+
+/// From so many random inputs of a kind on, more than half must have late
+/// processes.
+const ENOUGH: u64 = 40;
 
 #[derive(Default)]
 pub struct Seen {
@@ -71,6 +37,9 @@ pub struct Seen {
     pub left_out: u64,
     /// Stores that were carried to the other form and back.
     pub carried: u64,
+    /// Random inputs of a program, with what they ask, whose plans pass, and those
+    /// among them that have a late process.
+    random: BTreeMap<(Program, Option<u8>), [u64; 2]>,
 }
 
 impl Seen {
@@ -82,6 +51,32 @@ impl Seen {
         self.counts.get(&(program, sight)).copied().unwrap_or(0)
     }
 
+    /// Looks whether a random input that asks something known has a late process.
+    pub fn count_random(&mut self, list: &List) {
+        let known = list.asked().is_none_or(|asked| (REDUCE..=DOWNGRADE).contains(&asked));
+        if let (true, Some(topology)) = (known, list.topology()) {
+            let counts = self.random.entry((list.program, list.asked())).or_default();
+            counts[0] += 1;
+            counts[1] += u64::from(topology.late != 0);
+        }
+    }
+
+    /// Prints how many random inputs had late processes; those of which too few
+    /// had, where there were enough to tell.
+    pub fn tell_late(&self) -> Vec<String> {
+        let mut few = Vec::new();
+        for (&(program, asked), &[all, late]) in &self.random {
+            let asked = asked.map_or(String::new(), |asked| format!(" {asked}"));
+            let what =
+                format!("{}{asked}: {late} of {all} random plans with late boards", said(program));
+            println!("{what}");
+            if all >= ENOUGH && 2 * late <= all {
+                few.push(format!("too few: {what}"));
+            }
+        }
+        few
+    }
+
     /// Prints what was found to hold of calls, of parts and of stores.
     pub fn tell_held(&self) {
         let (demands, beyond) = (self.demands, self.beyond);
@@ -91,9 +86,9 @@ impl Seen {
         println!("restarts agreed on {} stores carried there and back", self.carried);
     }
 
-    /// Prints every count of these programs; the number of sights required, or
-    /// those missing.
-    pub fn report(&self, programs: impl Iterator<Item = Program>) -> Result<usize, Vec<String>> {
+    /// Prints every count of these programs; the number of sights required, and
+    /// what is wrong: those missing, and those that cannot be.
+    pub fn report(&self, programs: impl Iterator<Item = Program>) -> (usize, Vec<String>) {
         let mut missing = Vec::new();
         let mut required_in_all = 0;
         for program in programs {
@@ -113,106 +108,25 @@ impl Seen {
                 }
             }
         }
-        if missing.is_empty() {
-            Ok(required_in_all)
-        } else {
-            Err(missing)
-        }
+        (required_in_all, missing)
     }
 }
 
-fn name(program: Program, (group, what, number): Sight) -> String {
-    let program = match program {
+fn said(program: Program) -> &'static str {
+    match program {
         Program::Head => "head",
         Program::Drill => "drill",
         Program::Console => "console",
         Program::Converter => "converter",
-    };
+    }
+}
+
+fn name(program: Program, (group, what, number): Sight) -> String {
+    let program = said(program);
     match group {
-        _ if group.ends_with("plan refused") => format!("{program} {group} {number}"),
+        _ if what.is_empty() => format!("{program} {group} {number}"),
         _ if group.ends_with("refused") => format!("{program} {group} {number} ({what})"),
-        "cut" | "sent" => format!("{program} {group} {number} ({what})"),
+        "cut" | "sent" | AGAIN | AFTER_COPY => format!("{program} {group} {number} ({what})"),
         _ => format!("{program} {group} ({what})"),
     }
-}
-
-/// Everything that a run must see.
-fn required(program: Program) -> Vec<Sight> {
-    let asked = match program {
-        Program::Head => [refusals(), calls()].concat(),
-        Program::Drill => [refusals(), calls(), cuts()].concat(),
-        Program::Console => [refusals(), reductions(), sights::required()].concat(),
-        Program::Converter => [nothing(), sights::required()].concat(),
-    };
-    [vec![AS_LONG, LONGER], asked].concat()
-}
-
-/// Every refusal of a plan, of bytes, and of a call; for `console` the call is
-/// the first refused one of a list.
-fn refusals() -> Vec<Sight> {
-    let mut sights: Vec<Sight> = [1, 2, 3, 4, 5, 7].map(|n| ("plan refused", "", n)).to_vec();
-    sights.push(("refused", "record", 7));
-    sights.extend(["send", "take", "copy", "mark", "note"].map(|what| ("refused", what, 8)));
-    sights.extend(["send", "note"].map(|what| ("refused", what, 9)));
-    sights.push(("refused", "take", 10));
-    sights.extend(LOGS.map(|(what, _)| ("refused", what, 11)));
-    sights.extend(TWELVES.map(|what| ("refused", what, 12)));
-    sights
-}
-
-/// What accepted calls come to.
-fn calls() -> Vec<Sight> {
-    let takes = [
-        PLAIN,
-        PLAIN_COPYING,
-        COPIED_LOGS,
-        MARKER_MARKS,
-        MARKER_CLOSES,
-        MESSAGE_MARKS,
-        UNMARKED_LOGS,
-        MARKED_PLAIN,
-        CHANNEL_LOGS,
-    ];
-    let mut sights = takes.map(|what| ("take", what, 0)).to_vec();
-    let done = ["begin", "copy", "mark", "note", "finish", "give up"];
-    sights.extend(done.map(|what| ("done", what, 0)));
-    sights.extend((0..8).map(|room| ("sent", NO_NOTE, room)));
-    sights.extend((0..7).map(|room| ("sent", BESIDE_NOTE, room)));
-    sights.extend(["idle", "copying", "marking"].map(|what| ("restart", what, 0)));
-    sights.extend(["board log of 64", "wire log of 8"].map(|what| ("finish with", what, 0)));
-    sights.extend(["board log of 64", "wire log of 8"].map(|what| ("restart from", what, 0)));
-    sights.extend([LOWER_FIRST, HIGHER_FIRST].map(|what| ("restart from", what, 0)));
-    sights.extend(["tenth line", "tags 1 at begin"].map(|what| ("round", what, 0)));
-    sights
-}
-
-/// Lost power, and what comes after it.
-fn cuts() -> Vec<Sight> {
-    let mut sights: Vec<Sight> = (0..80).map(|stores| ("cut", "begin", stores)).collect();
-    sights.extend([("cut", "copy", 0), ("cut", "finish", 0)]);
-    for (log, needed) in LOGS {
-        sights.extend((0..needed).map(|stores| ("cut", log, stores)));
-    }
-    sights.extend(["restart", "another call"].map(|what| ("after a cut", what, 0)));
-    sights
-}
-
-/// The other lines of `console`, and parts of every size that a list can force.
-fn reductions() -> Vec<Sight> {
-    let sevens = ["no input", "nothing known is asked", "record, after 256"];
-    let mut sights = sevens.map(|what| ("refused", what, 7)).to_vec();
-    sights.extend([("refused", "no call is refused", 17), ("refused", "over 256 calls", 18)]);
-    let sizes = ["1 call", "2 calls", "9 to 31 calls", "32 to 127 calls", "128 calls or more"];
-    sights.extend(sizes.map(|what| ("part of", what, 0)));
-    let kept = ["2 of 256 calls", "all of more than 100 calls"];
-    sights.extend(kept.map(|what| ("kept", what, 0)));
-    let places = ["the 256th call", "a call before the last"];
-    sights.extend(places.map(|what| ("refused at", what, 0)));
-    sights.extend((0..8).map(|room| ("sent", IN_A_PART, room)));
-    sights
-}
-
-/// Inputs that ask `converter` nothing known.
-fn nothing() -> Vec<Sight> {
-    ["no input", "another first byte"].map(|what| ("nothing asked", what, 0)).to_vec()
 }

@@ -1,7 +1,8 @@
 //! Makes a failing input smaller: whole calls go first, then channels and
-//! processes with all that speaks of them, then single bytes. A store to be
-//! carried is another matter (`simplify`).
+//! processes with all that speaks of them, late bits, and single bytes. A store to
+//! be carried is another matter (`simplify`).
 
+use crate::plans;
 use crate::simplify;
 use crate::walk::{encode, Call};
 use reference::console::REDUCE;
@@ -67,6 +68,9 @@ impl Parts {
             *to -= usize::from(*to > gone);
         }
         parts.topology.processes -= 1;
+        let (lower, higher) = (plans::all_late(gone), !plans::all_late(gone + 1));
+        let late = parts.topology.late;
+        parts.topology.late = late & lower | (late & higher) >> 1;
         parts.calls.retain(|(_, record)| process(*record) != Some(gone));
         for (_, record) in &mut parts.calls {
             if let Record::Step(
@@ -76,6 +80,12 @@ impl Parts {
                 *process -= usize::from(*process > gone);
             }
         }
+        parts
+    }
+
+    fn with_early(&self, process: usize) -> Parts {
+        let mut parts = self.clone();
+        parts.topology.late &= !(1 << process);
         parts
     }
 }
@@ -116,10 +126,8 @@ impl Search<'_> {
             let before = best.len();
             if let Some(parts) = Parts::read(self.program, &best) {
                 let smaller = self.fewer_parts(parts).write(self.program);
-                // Shorter only by what failed without it.
-                if smaller.len() < best.len() {
-                    best = smaller;
-                }
+                // Other than before only by what failed without it.
+                best = smaller;
             }
             best = fewer(best, &mut |bytes| self.try_one(bytes));
             if best.len() == before {
@@ -153,6 +161,11 @@ impl Search<'_> {
         }
         for c in (0..parts.topology.channels.len()).rev() {
             self.keep(parts.without_channel(c), &mut parts);
+        }
+        for p in 0..parts.topology.processes {
+            if parts.topology.is_late(p) {
+                self.keep(parts.with_early(p), &mut parts);
+            }
         }
         parts
     }

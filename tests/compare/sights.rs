@@ -1,6 +1,7 @@
 //! What is seen of an input that asks for a store of the other form (M-102), and
 //! what a run must see of them.
 
+use crate::plans;
 use crate::seen::Sight;
 use reference::console::asked;
 use reference::forms::{Form, NEW, OLD};
@@ -56,17 +57,27 @@ const OTHERS: [&str; 5] = [
     "all bytes that are taken",
 ];
 
+/// Late boards: those of the old form have logs that are replayed, those of the new
+/// one anti-messages (M-105).
+const LATE: [&str; 5] = [
+    "a late board with nothing logged",
+    "a late board with a log",
+    "a late board with a log of 64",
+    "a late board's log that would make another word as an early one's",
+    "all boards late",
+];
+
 /// Everything that a run must see.
 pub fn required() -> Vec<Sight> {
     let mut sights = Vec::new();
     for way in [UP, DOWN] {
-        sights.extend([1, 2, 3, 4, 5, 7].map(|number| (way.plan_refused, "", number)));
+        sights.extend(plans::required(way.plan_refused));
         sights.extend(UNEVEN.map(|what| (way.refused, what, 7)));
         sights.extend([SHORT_TOO, OVER_TOO].map(|what| (way.refused, what, 7)));
         sights.extend(SHORT.map(|what| (way.refused, what, 6)));
         sights.push((way.refused, OVER_TOO, 6));
         sights.extend(COUNTS.map(|what| (way.refused, what, 16)));
-        let done = [&LINES[..], &LOGS, &ELSEWHERE, &OTHERS].concat();
+        let done = [&LINES[..], &LOGS, &ELSEWHERE, &OTHERS, &LATE].concat();
         sights.extend(done.into_iter().map(|what| (way.done, what, 0)));
     }
     sights
@@ -103,7 +114,7 @@ impl Way {
     fn sights(&self, asked: &[u8]) -> Vec<Sight> {
         let (topology, bytes) = match Topology::read(asked) {
             Ok(read) => read,
-            Err(number) => return vec![(self.plan_refused, "", u64::from(number))],
+            Err(_) => return plans::refused(self.plan_refused, asked),
         };
         let (cells, rest) = bytes.as_chunks();
         let cells: Vec<u32> = cells.iter().map(|&cell| u32::from_le_bytes(cell)).collect();
@@ -157,7 +168,28 @@ impl Way {
         what.extend(named(logs, LOGS));
         what.extend(named(elsewhere, ELSEWHERE));
         what.extend(named(others, OTHERS));
+        what.extend(named(self.late(topology, cells, boards), LATE));
         what.into_iter().map(|what| (self.done, what, 0)).collect()
+    }
+
+    /// What is to be seen of late boards, by the planned boards' counts.
+    fn late(&self, topology: &Topology, cells: &[u32], counts: &[u32]) -> [bool; 5] {
+        let late: Vec<usize> = (0..counts.len()).filter(|&p| topology.is_late(p)).collect();
+        let any = |test: &dyn Fn(u32) -> bool| late.iter().any(|&p| test(counts[p]));
+        let words = |late| {
+            let state = State::recover(NEW, &Topology { late, ..topology.clone() }, cells);
+            state.map(|state| state.words)
+        };
+        // Of the old form it is enough that there is a log.
+        let otherwise = self.from == OLD || words(topology.late) != words(0);
+        let logged = any(&|count| count > 0);
+        [
+            any(&|count| count == 0),
+            logged,
+            any(&|count| count == 64),
+            logged && otherwise,
+            late.len() == counts.len(),
+        ]
     }
 
     /// Whether `console` leaves out the cell of a word, or of a body, since it

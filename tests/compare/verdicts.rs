@@ -11,34 +11,41 @@ fn passes(input: &[u8], output: &[u8]) -> bool {
 }
 
 /// Begin, send, take, begin: the second begin is 12, and only the first matters.
-const TWICE: &[u8] = b"\x01\x02\x01\x00\x01\x01\x03\x09\x01\x07\x00\x00\x00\x01\x02\x01\x03";
-const TWICE_OUTPUT: &str = "02 01 00 01\n01 03 # 1\n01 03 # 4 refused 12\n";
+const TWICE: &[u8] =
+    b"\x01\x02\x01\x00\x01\x00\x00\x01\x03\x09\x01\x07\x00\x00\x00\x01\x02\x01\x03";
+const TWICE_OUTPUT: &str = "02 01 00 01 00 00\n01 03 # 1\n01 03 # 4 refused 12\n";
 
 /// Send, take, take: the last is 10, alone as well as after the others.
-const EMPTY: &[u8] = b"\x01\x02\x01\x00\x01\x09\x01\x07\x00\x00\x00\x01\x02\x01\x02";
+const EMPTY: &[u8] = b"\x01\x02\x01\x00\x01\x00\x00\x09\x01\x07\x00\x00\x00\x01\x02\x01\x02";
 
 /// Three restarts, a send, four restarts, a take of wire 1.
-const ALONE: &[u8] = b"\x01\x02\x01\x00\x01\x01\x09\x01\x09\x01\x09\x09\x01\x01\x00\x00\x00\
+const ALONE: &[u8] =
+    b"\x01\x02\x01\x00\x01\x00\x00\x01\x09\x01\x09\x01\x09\x09\x01\x01\x00\x00\x00\
     \x01\x09\x01\x09\x01\x09\x01\x09\x05\x02\x01";
 
-/// Inputs that a line is printed for.
+/// Inputs that a line is printed for. Of a map's two bytes either may break off.
 pub fn lines() -> bool {
-    let answers: [(&[u8], &str); 12] = [
+    let answers: [(&[u8], &str); 17] = [
         (b"", "refused 7\n"),
-        (b"\x00\x01\x00", "refused 7\n"),
-        (b"\x04\x01\x00", "refused 7\n"),
+        (b"\x00\x01\x00\x00\x00", "refused 7\n"),
+        (b"\x04\x01\x00\x00\x00", "refused 7\n"),
         (b"\xFF", "refused 7\n"),
         (b"\x01", "plan refused 7\n"),
         (b"\x01\x01", "plan refused 7\n"),
+        (b"\x01\x01\x00", "plan refused 7\n"),
+        (b"\x01\x01\x00\x00", "plan refused 7\n"),
         (b"\x01\x00\x00\x01\x00", "plan refused 1\n"),
-        (b"\x01\x02\x01\x01\x01\x01\x03\x01\x03", "plan refused 4\n"),
-        (b"\x01\x01\x00", "refused 17\n"),
-        (b"\x01\x01\x00\x01\x09", "refused 17\n"),
-        (b"\x01\x01\x00\x01", "refused 7\n"),
-        (b"\x01\x01\x00\x01\x03\x01\x03\x01\x00", "refused 7\n"),
+        (b"\x01\x02\x01\x01\x01\x00", "plan refused 7\n"),
+        (b"\x01\x02\x01\x01\x01\x04\x00\x01\x03\x01\x03", "plan refused 4\n"),
+        (b"\x01\x01\x00\x02\x00\x01\x03\x01\x03", "plan refused 19\n"),
+        (b"\x01\x01\x00\x00\x80\x01\x03\x01\x03", "plan refused 19\n"),
+        (b"\x01\x01\x00\x01\x00", "refused 17\n"),
+        (b"\x01\x01\x00\x00\x00\x01\x09", "refused 17\n"),
+        (b"\x01\x01\x00\x00\x00\x01", "refused 7\n"),
+        (b"\x01\x01\x00\x00\x00\x01\x03\x01\x03\x01\x00", "refused 7\n"),
     ];
     answers.iter().all(|(input, line)| {
-        let part = "01 00\n01 03 # 1\n01 03 # 2 refused 12\n";
+        let part = "01 00 00 00\n01 03 # 1\n01 03 # 2 refused 12\n";
         let others = ["", line.trim_end(), "refused 18\n", part];
         console::run(input) == line.as_bytes()
             && passes(input, line.as_bytes())
@@ -59,13 +66,13 @@ pub fn last_byte() -> bool {
 
 /// Parts that may be printed; of one input there are two.
 pub fn right() -> bool {
-    let alone = "02 01 00 01\n01 02 # 3 refused 10\n";
-    let all = "02 01 00 01\n09 01 07 00 00 00 # 1 sent 7\n01 02 # 2\n01 02 # 3 refused 10\n";
+    let alone = "02 01 00 01 00 00\n01 02 # 3 refused 10\n";
+    let all = "02 01 00 01 00 00\n09 01 07 00 00 00 # 1 sent 7\n01 02 # 2\n01 02 # 3 refused 10\n";
     console::run(TWICE) == TWICE_OUTPUT.as_bytes()
         && passes(TWICE, TWICE_OUTPUT.as_bytes())
         && passes(EMPTY, alone.as_bytes())
         && passes(EMPTY, all.as_bytes())
-        && passes(ALONE, b"02 01 00 01\n05 02 01 # 9 refused 8\n")
+        && passes(ALONE, b"02 01 00 01 00 00\n05 02 01 # 9 refused 8\n")
 }
 
 /// Texts that may not be printed. The last has the form of issue 11's example,
@@ -73,40 +80,40 @@ pub fn right() -> bool {
 pub fn wrong() -> bool {
     let texts = [
         "",
-        "02 01 00 01\n",
-        "02 01 00 01 refused 12\n",
+        "02 01 00 01 00 00\n",
+        "02 01 00 01 00 00 refused 12\n",
         "01 03 # 1\n01 03 # 4 refused 12\n",
-        "02 01 00 01\n01 03 # 1\n01 03 # 4 refused 12",
-        "02 01 00 01\n01 03 # 1\n01 03 # 4 refused 12\n\n",
-        "02 01 00 01\r\n01 03 # 1\r\n01 03 # 4 refused 12\r\n",
-        "02 01 00 01\n01 03 # 1\n01 03 # +4 refused 12\n",
-        "02 01 00 01\n01 03 # 1\n01 03 # 04 refused 12\n",
-        "02 01 00 01\n01 03 # 1 \n01 03 # 4 refused 12\n",
-        "02 01 00 01\n01 03  # 1\n01 03 # 4 refused 12\n",
-        "02 01 00 01\n0103 # 1\n01 03 # 4 refused 12\n",
-        "02 01 00 01\n01 03 # 1\n01 03 # 4 refused 10\n",
-        "02 01 00 01\n01 03 # 1\n01 03 # 4\n",
-        "02 01 00 01\n01 03 # 1 refused 12\n01 03 # 4 refused 12\n",
-        "02 01 00 01\n01 03 # 0\n01 03 # 3 refused 12\n",
-        "02 01 00 01\n01 03 # 1\n01 03 # 5 refused 12\n",
-        "02 01 00 01\n01 03 # 1\n01 03 # 99999999999999999999 refused 12\n",
-        "02 01 00 01\n01 03 # 4\n01 03 # 4 refused 12\n",
-        "02 01 00 01\n01 03 # 4\n01 03 # 1 refused 12\n",
-        "02 01 00 01\n01 03 # 4 refused 12\n",
-        "02 01 00 01\n01 03 # 1 refused 12\n",
-        "02 01 00 01\n01 03 # 1\n09 01 07 00 00 00 # 2 sent 7\n01 03 # 4 refused 12\n",
-        "02 01 00 01\n01 03 # 1 done\n01 03 # 4 refused 12\n",
-        "02 01 00 01\n01 03 # 1 sent 8\n01 03 # 4 refused 12\n",
-        "02 01 00 01\n01 03 # 1\n01 02 # 3\n01 03 # 4 refused 12\n",
+        "02 01 00 01 00 00\n01 03 # 1\n01 03 # 4 refused 12",
+        "02 01 00 01 00 00\n01 03 # 1\n01 03 # 4 refused 12\n\n",
+        "02 01 00 01 00 00\r\n01 03 # 1\r\n01 03 # 4 refused 12\r\n",
+        "02 01 00 01 00 00\n01 03 # 1\n01 03 # +4 refused 12\n",
+        "02 01 00 01 00 00\n01 03 # 1\n01 03 # 04 refused 12\n",
+        "02 01 00 01 00 00\n01 03 # 1 \n01 03 # 4 refused 12\n",
+        "02 01 00 01 00 00\n01 03  # 1\n01 03 # 4 refused 12\n",
+        "02 01 00 01 00 00\n0103 # 1\n01 03 # 4 refused 12\n",
+        "02 01 00 01 00 00\n01 03 # 1\n01 03 # 4 refused 10\n",
+        "02 01 00 01 00 00\n01 03 # 1\n01 03 # 4\n",
+        "02 01 00 01 00 00\n01 03 # 1 refused 12\n01 03 # 4 refused 12\n",
+        "02 01 00 01 00 00\n01 03 # 0\n01 03 # 3 refused 12\n",
+        "02 01 00 01 00 00\n01 03 # 1\n01 03 # 5 refused 12\n",
+        "02 01 00 01 00 00\n01 03 # 1\n01 03 # 99999999999999999999 refused 12\n",
+        "02 01 00 01 00 00\n01 03 # 4\n01 03 # 4 refused 12\n",
+        "02 01 00 01 00 00\n01 03 # 4\n01 03 # 1 refused 12\n",
+        "02 01 00 01 00 00\n01 03 # 4 refused 12\n",
+        "02 01 00 01 00 00\n01 03 # 1 refused 12\n",
+        "02 01 00 01 00 00\n01 03 # 1\n09 01 07 00 00 00 # 2 sent 7\n01 03 # 4 refused 12\n",
+        "02 01 00 01 00 00\n01 03 # 1 done\n01 03 # 4 refused 12\n",
+        "02 01 00 01 00 00\n01 03 # 1 sent 8\n01 03 # 4 refused 12\n",
+        "02 01 00 01 00 00\n01 03 # 1\n01 02 # 3\n01 03 # 4 refused 12\n",
         "refused 12\n",
         "refused 17\n",
     ];
-    let example = "02 01 00 01\n09 01 01 00 00 00 # 4 sent 7\n05 02 01 # 9 refused 8\n";
+    let example = "02 01 00 01 00 00\n09 01 01 00 00 00 # 4 sent 7\n05 02 01 # 9 refused 8\n";
     let sends = ["", " done", " sent", " sent 6", " sent 8", " sent 07", " sent 7 0"].map(|said| {
-        format!("02 01 00 01\n09 01 07 00 00 00 # 1{said}\n01 02 # 2\n01 02 # 3 refused 10\n")
+        format!("02 01 00 01 00 00\n09 01 07 00 00 00 # 1{said}\n01 02 # 2\n01 02 # 3 refused 10\n")
     });
     texts.iter().all(|text| !passes(TWICE, text.as_bytes()))
         && sends.iter().all(|text| !passes(EMPTY, text.as_bytes()))
-        && !passes(TWICE, b"02 01 00 01\n01 03 # 1\n01 03 # 4 refused 12\n\xFF")
+        && !passes(TWICE, b"02 01 00 01 00 00\n01 03 # 1\n01 03 # 4 refused 12\n\xFF")
         && !passes(ALONE, example.as_bytes())
 }

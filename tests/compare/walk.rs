@@ -3,51 +3,17 @@
 //! and calls at random.
 
 use crate::rng::Rng;
+use crate::style::Style;
 use reference::console::REDUCE;
 use reference::forms::{Form, NEW};
 use reference::program::{call, Program};
 use reference::record::{self, Record};
 use reference::state::{Phase, State, CAPACITY};
-use reference::steps::{Outcome, Rule, Step};
+use reference::steps::{Outcome, Step};
 use reference::topology::Topology;
 
 /// A call of a list: its write budget (of `drill`) and its record.
 pub type Call = (u32, Record);
-
-/// How a list likes to walk. Weights: send, receive, drive, burst, recover,
-/// abort, anything.
-pub struct Style {
-    weights: [usize; 7],
-    /// Of a hundred calls that store something, how many lose power.
-    cuts: usize,
-    /// Of a hundred lost powers, how many are followed by a recover.
-    recovers: usize,
-}
-
-impl Style {
-    pub fn random(rng: &mut Rng) -> Style {
-        let weights = match rng.weighted(&[30, 25, 20, 15, 10]) {
-            0 => [20, 20, 50, 2, 2, 1, 2],
-            1 => [10, 10, 100, 1, 1, 0, 0],
-            2 => [10, 15, 30, 12, 1, 0, 1],
-            3 => [40, 20, 40, 2, 3, 3, 10],
-            _ => [10, 10, 10, 1, 5, 5, 40],
-        };
-        let cuts = rng.pick(&[0, 2, 5, 20, 60]).unwrap();
-        Style { weights, cuts, recovers: rng.pick(&[100, 100, 80, 30]).unwrap() }
-    }
-
-    /// Gets rounds on, and seldom loses power.
-    pub fn driving(rng: &mut Rng) -> Style {
-        let cuts = rng.pick(&[0, 1, 3]).unwrap();
-        Style { weights: [14, 16, 60, 2, 1, 0, 0], cuts, recovers: 100 }
-    }
-
-    /// Fills logs and channels again and again, and loses no power.
-    pub fn bursting() -> Style {
-        Style { weights: [10, 10, 20, 12, 1, 0, 0], cuts: 0, recovers: 0 }
-    }
-}
 
 pub struct Walk<'a> {
     pub rng: &'a mut Rng,
@@ -129,11 +95,8 @@ impl<'a> Walk<'a> {
             Record::Step(Step::Begin) => topology.processes + topology.channels.len(),
             Record::Step(Step::PhysicalCheckpoint { .. } | Step::Commit) => 1,
             Record::Step(Step::Receive { channel }) if channel < topology.channels.len() => {
-                match self.state.rule(channel) {
-                    Some(Rule::CopiedLogs | Rule::UnmarkedLogs) => self.state.form.entry + 1,
-                    Some(Rule::ChannelLogs) => 2,
-                    _ => 0,
-                }
+                let rule = self.state.rule(channel);
+                rule.map_or(0, |rule| rule.stores(self.state.form.entry))
             }
             _ => 0,
         }
@@ -178,26 +141,40 @@ impl<'a> Walk<'a> {
         }
     }
 
-    fn drive_logical(&mut self) {
+    /// In marking: the marks, late copies, markers and receives that get a round on.
+    fn useful(&self) -> [Vec<Step>; 4] {
         let state = &self.state;
-        let planned = 0..state.topology.channels.len();
+        let processes = || 0..state.topology.processes;
+        let channels = || 0..state.topology.channels.len();
         let sender = |c: usize| state.topology.channels[c].0;
-        let markers = planned.clone().filter(|&c| {
+        let marks = processes().filter(|&p| !state.marked[p] && (p == 0 || state.marked[0]));
+        let copies = processes().filter(|&p| between_mark_and_copy(state, p));
+        let markers = channels().filter(|&c| {
             state.marked[sender(c)] && !state.marker_sent[c] && state.channels[c].len() < CAPACITY
         });
-        let receives = planned.filter(|&c| !state.closed[c] && !state.channels[c].is_empty());
-        let marks = (0..state.topology.processes)
-            .filter(|&p| !state.marked[p] && (p == 0 || state.marked[0]));
-        let markers: Vec<Step> = markers.map(|channel| Step::SendMarker { channel }).collect();
-        let receives: Vec<Step> = receives.map(|channel| Step::Receive { channel }).collect();
-        let marks: Vec<Step> = marks.map(|process| Step::LogicalCheckpoint { process }).collect();
-        if state.all_marked() && state.all_closed() {
+        let receives = channels().filter(|&c| !state.closed[c] && !state.channels[c].is_empty());
+        [
+            marks.map(|process| Step::LogicalCheckpoint { process }).collect(),
+            copies.map(|process| Step::PhysicalCheckpoint { process }).collect(),
+            markers.map(|channel| Step::SendMarker { channel }).collect(),
+            receives.map(|channel| Step::Receive { channel }).collect(),
+        ]
+    }
+
+    fn drive_logical(&mut self) {
+        let through = self.state.all_marked() && self.state.all_closed();
+        // At times late copies aren't waited for.
+        if through && (self.state.all_saved() || self.rng.percent(20)) {
             return self.step(Step::Commit);
         }
-        let order = match self.rng.below(5) {
-            0 | 1 => [markers, receives, marks],
-            2 | 3 => [receives, markers, marks],
-            _ => [marks, markers, receives],
+        let [marks, copies, markers, receives] = self.useful();
+        // Mostly late copies come when nothing else is left to do, so that much is
+        // taken between mark and copy.
+        let order = match self.rng.below(6) {
+            0 | 1 => [markers, receives, marks, copies],
+            2 | 3 => [receives, markers, marks, copies],
+            4 => [marks, markers, receives, copies],
+            _ => [copies, marks, markers, receives],
         };
         let useful = order.iter().find(|steps| !steps.is_empty());
         match useful.and_then(|steps| self.rng.pick(steps)) {
@@ -217,7 +194,7 @@ impl<'a> Walk<'a> {
             match state.phase {
                 Phase::Idle => true,
                 Phase::Physical { next } => to < next,
-                Phase::Logical => !state.marked[from],
+                Phase::Logical => !state.marked[from] || between_mark_and_copy(state, to),
             }
         });
         match self.rng.below(4) {
@@ -269,6 +246,11 @@ impl<'a> Walk<'a> {
         };
         self.call(record);
     }
+}
+
+/// Whether what a late process takes now becomes anti-messages, and it may copy.
+fn between_mark_and_copy(state: &State, process: usize) -> bool {
+    state.late(process) && state.marked[process] && !state.saved[process]
 }
 
 /// The bytes of a whole input.

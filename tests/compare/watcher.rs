@@ -1,17 +1,15 @@
 //! Looks on while the reference runs: counts what is seen, keeps the histories
 //! (document 01: the books), and checks demand 3 after every call.
 
-use crate::seen::{self, Seen, Sight};
+use crate::found;
+use crate::rules::{refusal, rule};
+use crate::seen::{Seen, Sight};
+use crate::wanted;
 use reference::history::Histories;
 use reference::program::{Program, Watch};
-use reference::record::{kind, Record};
+use reference::record::Record;
 use reference::state::{Entry, Phase, State};
-use reference::steps::{Answer, Outcome, Rule, Step};
-use reference::store::{self, MESSAGE_LOG};
-use std::cmp::Ordering;
-
-const KINDS: [&str; 9] =
-    ["send", "take", "begin", "copy", "mark", "note", "finish", "give up", "restart"];
+use reference::steps::{Answer, Outcome, Step};
 
 pub struct Watcher<'a> {
     program: Program,
@@ -21,8 +19,15 @@ pub struct Watcher<'a> {
     /// (but for the number), or loses power.
     phase: Phase,
     rule: &'static str,
-    full_logs: [bool; 2],
+    full_logs: [bool; 3],
     new_tags: bool,
+    late_open: bool,
+    /// A take into two logs that was cut, and is still to be made: its channel, and
+    /// the stores made.
+    half_logged: Option<(usize, u64)>,
+    /// A late process of the round under way, and of the last finished line, was
+    /// marked by a take.
+    marked_by_take: [bool; 2],
     /// The last call lost power.
     lost: bool,
     /// Demand 3's premise held so far: after a lost power a recover is next.
@@ -40,8 +45,11 @@ impl<'a> Watcher<'a> {
             histories: None,
             phase: Phase::Idle,
             rule: "",
-            full_logs: [false; 2],
+            full_logs: [false; 3],
             new_tags: false,
+            late_open: false,
+            half_logged: None,
+            marked_by_take: [false; 2],
             lost: false,
             premise: true,
             fault: None,
@@ -55,29 +63,49 @@ impl<'a> Watcher<'a> {
 
     fn count_done(&mut self, record: Record) {
         match record {
-            Record::Step(Step::Receive { .. }) => return self.count(("take", self.rule, 0)),
-            Record::Step(Step::Begin) if self.new_tags => {
-                self.count(("round", "tags 1 at begin", 0));
+            Record::Step(Step::Receive { channel }) => return self.count_take(channel),
+            Record::Step(Step::Begin) => {
+                self.marked_by_take[0] = false;
+                if self.new_tags {
+                    self.count(("round", "tags 1 at begin", 0));
+                }
             }
             Record::Step(Step::Commit) => {
-                for (full, what) in
-                    self.full_logs.into_iter().zip(["board log of 64", "wire log of 8"])
-                {
+                self.marked_by_take[1] = self.marked_by_take[0];
+                for (full, what) in self.full_logs.into_iter().zip(wanted::FULL_BEHIND) {
                     if full {
                         self.count(("finish with", what, 0));
                     }
                 }
             }
+            Record::Step(Step::Abort) => self.half_logged = None,
             _ => (),
         }
-        self.count(("done", KINDS[kind(record) as usize - 1], 0));
+        self.count(("done", self.rule, 0));
+    }
+
+    fn count_take(&mut self, channel: usize) {
+        self.count(("take", self.rule, 0));
+        self.marked_by_take[0] |= self.rule == wanted::MESSAGE_MARKS_LATE;
+        if let Some((_, stores)) = self.half_logged.take_if(|(half, _)| *half == channel) {
+            let again = self.rule == wanted::BOTH_LOGS;
+            let group = if again { wanted::AGAIN } else { wanted::AFTER_COPY };
+            self.count((group, wanted::BOTH_LOGS, stores));
+        }
+    }
+
+    fn count_cut(&mut self, record: Record, stores: u64) {
+        self.count(("cut", self.rule, stores));
+        if let (wanted::BOTH_LOGS, Record::Step(Step::Receive { channel })) = (self.rule, record) {
+            self.half_logged = Some((channel, stores));
+        }
     }
 
     /// A send, by whether a marker was on its channel, and the room left.
     fn count_sent(&mut self, state: &State, record: Record, room: usize) {
         if let Record::Step(Step::Send { channel, .. }) = record {
             let beside = state.channels[channel].contains(&Entry::Marker);
-            let what = if beside { seen::BESIDE_NOTE } else { seen::NO_NOTE };
+            let what = if beside { wanted::BESIDE_NOTE } else { wanted::NO_NOTE };
             self.count(("sent", what, room as u64));
         }
     }
@@ -89,33 +117,16 @@ impl<'a> Watcher<'a> {
             Phase::Logical => "marking",
         };
         self.count(("restart", phase, 0));
-        self.count_replayed(state, cells);
-        if state.channels.iter().any(|entries| entries.len() == 8) {
-            self.count(("restart from", "wire log of 8", 0));
+        if self.late_open {
+            self.count(("restart", "a late board marked, not copied", 0));
         }
-    }
-
-    /// What stood in the board logs that a restart has replayed.
-    fn count_replayed(&mut self, state: &State, cells: &[u32]) {
-        let form = state.form;
-        let log = |p| {
-            store::read_log(cells, form.message_log(state.line, p), MESSAGE_LOG, form.entry).ok()
-        };
-        let logs: Vec<Vec<&[u32]>> = (0..state.topology.processes).filter_map(log).collect();
-        if logs.iter().any(|log| log.len() == MESSAGE_LOG) {
-            self.count(("restart from", "board log of 64", 0));
+        for what in found::by_restart(state, cells) {
+            self.count(("restart from", what, 0));
         }
-        let equal_bodies = || {
-            let twos = logs.iter().flat_map(|log| log.windows(2));
-            twos.filter(|two| two[0][0] == two[1][0]).map(|two| two[0][1].cmp(&two[1][1]))
-        };
-        for (order, what) in
-            [(Ordering::Less, seen::LOWER_FIRST), (Ordering::Greater, seen::HIGHER_FIRST)]
-        {
-            if equal_bodies().any(|wires| wires == order) {
-                self.count(("restart from", what, 0));
-            }
+        if self.marked_by_take[1] {
+            self.count(("restart from", wanted::UNDONE_MARKING, 0));
         }
+        self.half_logged = None;
     }
 
     fn demand(&mut self, cells: &[u32], record: Record, answer: Answer) {
@@ -134,10 +145,6 @@ impl<'a> Watcher<'a> {
 }
 
 impl Watch for Watcher<'_> {
-    fn refused_plan(&mut self, number: u8) {
-        self.count(("plan refused", "", u64::from(number)));
-    }
-
     fn started(&mut self, state: &State) {
         self.histories = Some(Histories::new(state.form, &state.topology));
     }
@@ -149,8 +156,10 @@ impl Watch for Watcher<'_> {
     fn before(&mut self, state: &State, record: Record) {
         self.phase = state.phase;
         self.rule = rule(state, record);
-        self.full_logs = [state.message_counts.contains(&64), state.channel_counts.contains(&8)];
+        let full = |late| (0..16).any(|p| state.late(p) == late && state.message_counts[p] == 64);
+        self.full_logs = [full(false), full(true), state.channel_counts.contains(&8)];
         self.new_tags = state.tags[0];
+        self.late_open = (0..16).any(|p| state.late(p) && state.marked[p] && !state.saved[p]);
     }
 
     fn after(&mut self, state: &State, cells: &[u32], record: Record, answer: Answer) {
@@ -165,79 +174,11 @@ impl Watch for Watcher<'_> {
             Outcome::Sent(room) => self.count_sent(state, record, room),
             Outcome::Line(_) => self.count_restart(state, cells),
             Outcome::Refused(number) => self.count(refusal(self.rule, record, number)),
-            Outcome::PowerLost => self.count(("cut", self.rule, answer.stores)),
+            Outcome::PowerLost => self.count_cut(record, answer.stores),
         }
         if record == Record::Step(Step::Commit) && state.line == 10 {
             self.count(("round", "tenth line", 0));
         }
         self.demand(cells, record, answer);
-    }
-}
-
-/// What counts as seen where a call is refused: 11 and 12 by the rule that it
-/// falls under, others by its kind.
-pub fn refusal(rule: &'static str, record: Record, number: u8) -> Sight {
-    let what = match number {
-        11 | 12 => rule,
-        _ => KINDS[kind(record) as usize - 1],
-    };
-    ("refused", what, u64::from(number))
-}
-
-/// The rule that a call falls under: for a receive document 01's rule of taking;
-/// for other steps the condition that isn't met, if one isn't.
-pub fn rule(state: &State, record: Record) -> &'static str {
-    let Record::Step(step) = record else {
-        return "restart";
-    };
-    let marking = state.phase == Phase::Logical;
-    let copying = matches!(state.phase, Phase::Physical { .. });
-    match step {
-        Step::Receive { channel } => taking(state, channel),
-        Step::Begin if state.phase != Phase::Idle => "begin in a round",
-        Step::PhysicalCheckpoint { .. } if !copying => "copy outside copying",
-        Step::PhysicalCheckpoint { process }
-            if state.phase != (Phase::Physical { next: process }) =>
-        {
-            "copy out of order"
-        }
-        Step::LogicalCheckpoint { .. } if !marking => "mark outside marking",
-        Step::LogicalCheckpoint { process } if process < 16 && state.marked[process] => {
-            "mark twice"
-        }
-        Step::LogicalCheckpoint { process } if process > 0 && !state.marked[0] => {
-            "mark before board 0"
-        }
-        Step::SendMarker { .. } if !marking => "note outside marking",
-        Step::SendMarker { channel } => match state.topology.channels.get(channel) {
-            Some(&(from, _)) if !state.marked[from] => "note before the mark",
-            Some(_) if state.marker_sent[channel] => "note twice",
-            _ => "note",
-        },
-        Step::Commit if !marking => "finish outside marking",
-        Step::Commit if !state.all_marked() => "finish, board unmarked",
-        Step::Commit if !state.all_closed() => "finish, wire open",
-        Step::Abort if state.phase == Phase::Idle => "give up when idle",
-        _ => KINDS[kind(record) as usize - 1],
-    }
-}
-
-fn taking(state: &State, channel: usize) -> &'static str {
-    if channel >= state.topology.channels.len() {
-        return "no wire";
-    }
-    match state.rule(channel) {
-        None => "empty wire",
-        Some(Rule::MarkerDropped) => "note outside marking",
-        Some(Rule::Plain) if state.phase == Phase::Idle => seen::PLAIN,
-        Some(Rule::Plain) => seen::PLAIN_COPYING,
-        Some(Rule::CopiedLogs) => seen::COPIED_LOGS,
-        Some(Rule::MarkerMarks) => seen::MARKER_MARKS,
-        Some(Rule::MarkerCloses) => seen::MARKER_CLOSES,
-        Some(Rule::MarkerOnClosed) => "note on a closed wire",
-        Some(Rule::MessageMarks) => seen::MESSAGE_MARKS,
-        Some(Rule::UnmarkedLogs) => seen::UNMARKED_LOGS,
-        Some(Rule::MarkedPlain) => seen::MARKED_PLAIN,
-        Some(Rule::ChannelLogs) => seen::CHANNEL_LOGS,
     }
 }

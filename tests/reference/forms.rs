@@ -1,6 +1,7 @@
 //! The two forms of the store. The old one is document 01's; the new one is
-//! M-101's, whose message logs hold each message's channel too. With a form goes
-//! the rule by which a take makes the word.
+//! M-101's, whose message logs hold each message's channel too, and with M-105 a
+//! late process's anti-messages. With a form goes the rule by which a take makes
+//! the word.
 
 /// A form, by its numbers of cells.
 #[derive(Clone, Copy, Debug, PartialEq, Eq)]
@@ -15,16 +16,39 @@ pub struct Form {
     before_channels: usize,
     /// A message log entry's: body, and in the new form channel.
     pub entry: usize,
+    /// Whether the logs of late processes are anti-messages (M-105). The heads
+    /// with the old form know of no late processes.
+    pub anti_messages: bool,
 }
 
-pub const OLD: Form =
-    Form { cells: 3265, slot: 1632, process: 66, before_channels: 1056, entry: 1 };
-pub const NEW: Form =
-    Form { cells: 5313, slot: 2656, process: 130, before_channels: 2080, entry: 2 };
+pub const OLD: Form = Form {
+    cells: 3265,
+    slot: 1632,
+    process: 66,
+    before_channels: 1056,
+    entry: 1,
+    anti_messages: false,
+};
+pub const NEW: Form = Form {
+    cells: 5313,
+    slot: 2656,
+    process: 130,
+    before_channels: 2080,
+    entry: 2,
+    anti_messages: true,
+};
+
+/// Times 31 it is 1, modulo 2^32 (M-105).
+const INVERSE: u32 = 3_186_588_639;
 
 /// 31 × word + number, modulo 2^32.
 fn folded(word: u32, number: u32) -> u32 {
     word.wrapping_mul(31).wrapping_add(number)
+}
+
+/// The word that a number was folded into.
+fn unfolded(word: u32, number: u32) -> u32 {
+    word.wrapping_sub(number).wrapping_mul(INVERSE)
 }
 
 impl Form {
@@ -76,5 +100,14 @@ impl Form {
             [body, channel] => self.taken(word, channel, body),
             _ => self.taken(word, 0, entry[0]),
         }
+    }
+
+    /// The word before a body was taken from a channel, by M-101's rule: an
+    /// anti-message undone. Only the new form has them.
+    pub fn undone(self, word: u32, entry: &[u32]) -> u32 {
+        let [body, channel] = *entry else {
+            unreachable!("an anti-message has a body and a wire");
+        };
+        unfolded(unfolded(word, body), channel)
     }
 }

@@ -14,4 +14,5 @@ pub mod reduce;
 pub mod state;
 pub mod steps;
 pub mod store;
+pub mod taking;
 pub mod topology;

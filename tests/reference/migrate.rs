@@ -13,7 +13,8 @@ use crate::topology::Topology;
 pub const UPGRADE: u8 = 2;
 pub const DOWNGRADE: u8 = 3;
 
-/// Carries a store. Refusals: 1 to 6 and 16 of the source, then 6 of the target.
+/// Carries a store. Refusals: 1 to 5, 19, 6 and 16 of the source, then 6 of the
+/// target.
 pub fn carry(
     topology: &Topology,
     (from, source): (Form, &[u32]),

@@ -40,7 +40,6 @@ impl Program {
 
 /// Looks on while a program runs.
 pub trait Watch {
-    fn refused_plan(&mut self, _number: u8) {}
     fn started(&mut self, _state: &State) {}
     fn unreadable(&mut self) {}
     fn before(&mut self, _state: &State, _record: Record) {}
@@ -106,10 +105,7 @@ fn run_calls(program: Program, input: &[u8], watch: &mut dyn Watch) -> String {
     });
     let (mut state, mut rest) = match started {
         Ok(started) => started,
-        Err(number) => {
-            watch.refused_plan(number);
-            return format!("plan refused {number}\n");
-        }
+        Err(number) => return format!("plan refused {number}\n"),
     };
     watch.started(&state);
     let mut number = 0;

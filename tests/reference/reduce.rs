@@ -19,7 +19,7 @@ pub struct Refusal {
 }
 
 /// Runs calls from initialize, with full power and a store of its own, until
-/// one is refused: the state then, and that refusal. Or 1 to 5.
+/// one is refused: the state then, and that refusal. Or 1 to 5, or 19.
 fn run(
     topology: &Topology,
     calls: impl Iterator<Item = Record>,
@@ -46,7 +46,7 @@ pub struct RefusedList {
 }
 
 impl RefusedList {
-    /// M-100's checks: 18, then 1 to 5, then 17.
+    /// M-100's checks: 18, then 1 to 5 and 19, then 17.
     pub fn new(topology: Topology, calls: Vec<Record>) -> Result<RefusedList, u8> {
         if calls.len() > MOST {
             return Err(18);

@@ -44,6 +44,9 @@ pub struct State {
     pub tags: [bool; PROCESSES],
     /// Processes with a logical checkpoint (document 01: mark) in this round.
     pub marked: [bool; PROCESSES],
+    /// Late processes with a physical checkpoint (document 01: copy) in this
+    /// round.
+    pub saved: [bool; PROCESSES],
     pub channels: Vec<VecDeque<Entry>>,
     pub closed: [bool; CHANNELS],
     /// Channels on which this round's marker (document 01: note) was put.
@@ -63,6 +66,7 @@ impl State {
             words: [0; PROCESSES],
             tags: [false; PROCESSES],
             marked: [false; PROCESSES],
+            saved: [false; PROCESSES],
             channels: vec![VecDeque::new(); CHANNELS],
             closed: [false; CHANNELS],
             marker_sent: [false; CHANNELS],
@@ -100,7 +104,11 @@ impl State {
             let log = form.message_log(line, p);
             let log = store::read_log(cells, log, MESSAGE_LOG, form.entry)?;
             let copy = cells[form.physical_checkpoint(line, p)];
-            state.words[p] = log.into_iter().fold(copy, |word, entry| form.replayed(word, entry));
+            state.words[p] = if state.late(p) {
+                log.into_iter().rev().fold(copy, |word, entry| form.undone(word, entry))
+            } else {
+                log.into_iter().fold(copy, |word, entry| form.replayed(word, entry))
+            };
         }
         for c in 0..topology.channels.len() {
             let log = store::read_log(cells, form.channel_log(line, c), CHANNEL_LOG, 1)?;
@@ -117,7 +125,7 @@ impl State {
         }
         let (processes, channels) = (self.topology.processes, self.topology.channels.len());
         let next_planned = match self.phase {
-            Phase::Physical { next } => next < processes,
+            Phase::Physical { next } => next < processes && !self.late(next),
             Phase::Idle | Phase::Logical => true,
         };
         next_planned
@@ -127,9 +135,15 @@ impl State {
             && self.channel_counts[..channels].iter().all(|&count| count <= CHANNEL_LOG)
     }
 
-    /// No process marked, no channel closed, no marker put.
+    /// Whether a process is late, by the rules of the store's form.
+    pub fn late(&self, process: usize) -> bool {
+        self.form.anti_messages && self.topology.is_late(process)
+    }
+
+    /// No process marked, no late one saved, no channel closed, no marker put.
     pub fn clear_round(&mut self) {
         self.marked = [false; PROCESSES];
+        self.saved = [false; PROCESSES];
         self.closed = [false; CHANNELS];
         self.marker_sent = [false; CHANNELS];
     }
@@ -137,6 +151,11 @@ impl State {
     /// Every planned process is marked.
     pub fn all_marked(&self) -> bool {
         self.marked[..self.topology.processes].iter().all(|&marked| marked)
+    }
+
+    /// Every late process has its physical checkpoint.
+    pub fn all_saved(&self) -> bool {
+        (0..self.topology.processes).all(|p| !self.late(p) || self.saved[p])
     }
 
     /// Every planned channel is closed.

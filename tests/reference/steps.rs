@@ -1,9 +1,9 @@
 //! The eight steps. Each makes its refusals in document 01's order (15, 6, 8,
 //! 12, 13, 10, 14, 9, 11), then its stores, and changes the state only when
-//! nothing can stop it any more.
+//! nothing can stop it any more. Taking stands in a file of its own.
 
 use crate::state::{Entry, Phase, State, CAPACITY};
-use crate::store::{Power, Stop, CHANNEL_LOG, LINE, MESSAGE_LOG};
+use crate::store::{Power, Stop, LINE};
 
 /// Document 01's steps 1 to 8, with the fields that each uses.
 #[derive(Clone, Copy, Debug, PartialEq, Eq)]
@@ -58,32 +58,8 @@ pub struct Answer {
     pub stores: u64,
 }
 
-/// The rule of document 01 that a receive falls under.
-#[derive(Clone, Copy, Debug, PartialEq, Eq)]
-pub enum Rule {
-    /// Outside marking: a note is merely removed.
-    MarkerDropped,
-    /// Outside marking: a message, not logged.
-    Plain,
-    /// In copying: a copied receiver logs in its board log.
-    CopiedLogs,
-    /// In marking: a note marks the receiver and closes the wire.
-    MarkerMarks,
-    /// In marking: a note closes the wire of a marked receiver.
-    MarkerCloses,
-    /// In marking: a note on a closed wire, 14.
-    MarkerOnClosed,
-    /// In marking, other tag, unmarked receiver: it is marked first.
-    MessageMarks,
-    /// In marking, equal tags, unmarked receiver: board log.
-    UnmarkedLogs,
-    /// In marking, equal tags, marked receiver: no log.
-    MarkedPlain,
-    /// In marking, other tag, marked receiver: wire log.
-    ChannelLogs,
-}
-
-fn require(met: bool, refusal: u8) -> Result<(), Stop> {
+/// Refuses with a number where a condition isn't met.
+pub fn require(met: bool, refusal: u8) -> Result<(), Stop> {
     if met {
         Ok(())
     } else {
@@ -122,7 +98,7 @@ impl State {
     }
 
     /// A planned channel's ends, or 8.
-    fn ends(&self, channel: usize) -> Result<(usize, usize), Stop> {
+    pub fn ends(&self, channel: usize) -> Result<(usize, usize), Stop> {
         self.topology.channels.get(channel).copied().ok_or(Stop::Refused(8))
     }
 
@@ -132,81 +108,6 @@ impl State {
         let tag = self.tags[from];
         self.channels[channel].push_back(Entry::Message { body, tag });
         Ok(Outcome::Sent(CAPACITY - self.channels[channel].len()))
-    }
-
-    fn receive(&mut self, channel: usize, power: &mut Power) -> Result<Outcome, Stop> {
-        let (_, to) = self.ends(channel)?;
-        let rule = self.rule(channel).ok_or(Stop::Refused(10))?;
-        require(rule != Rule::MarkerOnClosed, 14)?;
-        if let Entry::Message { body, .. } = self.channels[channel][0] {
-            self.log(rule, channel, body, power)?;
-        }
-        if let Rule::MarkerMarks | Rule::MessageMarks = rule {
-            self.mark(to);
-        }
-        match self.channels[channel].pop_front() {
-            Some(Entry::Message { body, .. }) => {
-                self.words[to] = self.form.taken(self.words[to], channel as u32, body);
-                Ok(Outcome::Took(body))
-            }
-            _ => {
-                self.closed[channel] |= self.phase == Phase::Logical;
-                Ok(Outcome::Marker)
-            }
-        }
-    }
-
-    /// The rule that a receive on this planned channel falls under; none where
-    /// the channel is empty.
-    pub fn rule(&self, channel: usize) -> Option<Rule> {
-        let (_, to) = self.topology.channels[channel];
-        let first = self.channels[channel].front()?;
-        Some(match (self.phase, *first) {
-            (Phase::Logical, Entry::Marker) if self.closed[channel] => Rule::MarkerOnClosed,
-            (Phase::Logical, Entry::Marker) if self.marked[to] => Rule::MarkerCloses,
-            (Phase::Logical, Entry::Marker) => Rule::MarkerMarks,
-            (_, Entry::Marker) => Rule::MarkerDropped,
-            (Phase::Logical, Entry::Message { tag, .. }) => {
-                match (tag == self.tags[to], self.marked[to]) {
-                    (true, false) => Rule::UnmarkedLogs,
-                    (true, true) => Rule::MarkedPlain,
-                    (false, false) => Rule::MessageMarks,
-                    (false, true) => Rule::ChannelLogs,
-                }
-            }
-            (Phase::Physical { next }, _) if to < next => Rule::CopiedLogs,
-            _ => Rule::Plain,
-        })
-    }
-
-    /// Logs a message where the rule says so: 11, or the entry's stores, then
-    /// the raised count.
-    fn log(
-        &mut self,
-        rule: Rule,
-        channel: usize,
-        body: u32,
-        power: &mut Power,
-    ) -> Result<(), Stop> {
-        let (_, to) = self.topology.channels[channel];
-        let line = self.line.wrapping_add(1);
-        match rule {
-            Rule::CopiedLogs | Rule::UnmarkedLogs => {
-                let count = self.message_counts[to];
-                require(count < MESSAGE_LOG, 11)?;
-                let entry = self.form.logged(channel as u32, body);
-                power.append(self.form.message_log(line, to), count, &entry)?;
-                self.message_counts[to] += 1;
-            }
-            Rule::ChannelLogs => {
-                let count = self.channel_counts[channel];
-                require(count < CHANNEL_LOG, 11)?;
-                power.append(self.form.channel_log(line, channel), count, &[body])?;
-                self.channel_counts[channel] += 1;
-            }
-            _ => (),
-        }
-        Ok(())
     }
 
     fn begin(&mut self, power: &mut Power) -> Result<(), Stop> {
@@ -220,22 +121,42 @@ impl State {
         }
         self.message_counts.fill(0);
         self.channel_counts.fill(0);
-        self.phase = Phase::Physical { next: 0 };
+        self.copying_from(0);
         Ok(())
+    }
+
+    /// Copying goes on at the first process from here on that isn't late; where
+    /// there is none, marking starts.
+    fn copying_from(&mut self, process: usize) {
+        match (process..self.topology.processes).find(|&p| !self.late(p)) {
+            Some(next) => self.phase = Phase::Physical { next },
+            None => {
+                self.clear_round();
+                self.phase = Phase::Logical;
+            }
+        }
     }
 
     fn physical_checkpoint(&mut self, process: usize, power: &mut Power) -> Result<(), Stop> {
         require(process < self.topology.processes, 8)?;
-        require(self.phase == Phase::Physical { next: process }, 12)?;
+        require(self.may_copy(process), 12)?;
         power.put(self.form.physical_checkpoint(self.line + 1, process), self.words[process])?;
-        let next = process + 1;
-        if next < self.topology.processes {
-            self.phase = Phase::Physical { next };
+        if self.late(process) {
+            self.saved[process] = true;
         } else {
-            self.clear_round();
-            self.phase = Phase::Logical;
+            self.copying_from(process + 1);
         }
         Ok(())
+    }
+
+    /// An early process copies in its turn; a late one once marked, one time in a
+    /// round.
+    fn may_copy(&self, process: usize) -> bool {
+        if self.late(process) {
+            self.phase == Phase::Logical && self.marked[process] && !self.saved[process]
+        } else {
+            self.phase == Phase::Physical { next: process }
+        }
     }
 
     fn logical_checkpoint(&mut self, process: usize) -> Result<(), Stop> {
@@ -247,7 +168,7 @@ impl State {
     }
 
     /// Marking turns the process's tag over.
-    fn mark(&mut self, process: usize) {
+    pub fn mark(&mut self, process: usize) {
         self.marked[process] = true;
         self.tags[process] = !self.tags[process];
     }
@@ -263,7 +184,7 @@ impl State {
     }
 
     fn commit(&mut self, power: &mut Power) -> Result<(), Stop> {
-        let ready = self.all_marked() && self.all_closed();
+        let ready = self.all_marked() && self.all_saved() && self.all_closed();
         require(self.phase == Phase::Logical && ready, 12)?;
         power.put(LINE, self.line + 1)?;
         self.line += 1;

@@ -7,6 +7,7 @@ use reference::console::REDUCE;
 use reference::program::Program;
 use reference::record::{self, Record};
 use reference::steps::Step;
+use reference::topology::Topology;
 
 /// A program and how it is run: from the input's bytes to what it prints.
 pub struct Side<'a> {
@@ -79,6 +80,25 @@ fn rooms(text: &str) -> String {
     let sends: Vec<&str> =
         text.lines().filter_map(|line| Some(line.split_once(" sent ")?.1)).collect();
     sends.join(" ")
+}
+
+/// The wires emptied, and a round from begin to finish, in which late boards copy once all are marked.
+fn whole_round(topology: &Topology) -> Vec<Step> {
+    let (boards, wires) = (0..topology.processes, 0..topology.channels.len());
+    let copies = |late| {
+        let boards = boards.clone().filter(move |&p| topology.is_late(p) == late);
+        boards.map(|process| Step::PhysicalCheckpoint { process })
+    };
+    let mut steps: Vec<Step> =
+        wires.clone().flat_map(|channel| [Step::Receive { channel }; 8]).collect();
+    steps.push(Step::Begin);
+    steps.extend(copies(false));
+    steps.extend(boards.clone().map(|process| Step::LogicalCheckpoint { process }));
+    steps.extend(copies(true));
+    steps.extend(wires.clone().map(|channel| Step::SendMarker { channel }));
+    steps.extend(wires.map(|channel| Step::Receive { channel }));
+    steps.push(Step::Commit);
+    steps
 }
 
 impl Play<'_> {
@@ -193,24 +213,18 @@ impl Play<'_> {
         Ok((output, answer))
     }
 
-    /// The phase: without current a begin is cut only when idle, and a copy only in copying. The last line finished:
-    /// one less than cell 0 is after a whole round.
+    /// The phase: without current a begin is cut only when idle, and an early board's copy only in copying. The last
+    /// line finished: one less than cell 0 is after a whole round.
     fn round(&self) -> Result<String, String> {
-        let (boards, wires) = (0..self.plan[0] as usize, 0..self.plan[1] as usize);
+        let (topology, _) = Topology::read(&self.plan).map_err(|number| number.to_string())?;
         let lost = |step| self.probe(0, &[step]).map(|(_, answer)| answer == "cut 0");
         let idle = lost(Step::Begin)?;
         let mut copying = false;
-        for process in boards.clone() {
+        for process in (0..topology.processes).filter(|&p| !topology.is_late(p)) {
             copying |= lost(Step::PhysicalCheckpoint { process })?;
         }
         let mut steps = if idle { vec![] } else { vec![Step::Abort] };
-        steps.extend(wires.clone().flat_map(|channel| [Step::Receive { channel }; 8]));
-        steps.push(Step::Begin);
-        steps.extend(boards.clone().map(|process| Step::PhysicalCheckpoint { process }));
-        steps.extend(boards.map(|process| Step::LogicalCheckpoint { process }));
-        steps.extend(wires.clone().map(|channel| Step::SendMarker { channel }));
-        steps.extend(wires.map(|channel| Step::Receive { channel }));
-        steps.push(Step::Commit);
+        steps.extend(whole_round(&topology));
         let (output, answer) = self.probe(u32::MAX, &steps)?;
         let line: u32 = after(&output, "cell 0").and_then(|k| k.parse().ok()).unwrap_or(0);
         if answer != "done 1" || line == 0 {

@@ -9,6 +9,8 @@
 //! or says what holds for the calls after it:
 //!
 //!     plan BOARDS FROM>TO ..     sizes BOARDS WIRES, all ends 0     largest: 16 boards, 64 wires
+//!     plan BOARDS FROM>TO .. late BOARD ..     with late boards (M-105); in all others none is late
+//!     plan bytes BYTE ..     a plan as it is read, in hexadecimal, whole or broken off
 //!     current STORES    how many stores the current lasts for in each call; at first more than any needs
 //!
 //! or is a question:
@@ -100,8 +102,10 @@ fn read_command(text: &str) -> Option<Command> {
     let words: Vec<&str> = text.split_whitespace().collect();
     let (&word, rest) = words.split_first()?;
     if let ("record", false) = (word, rest.is_empty()) {
-        let bytes = rest.iter().map(|byte| u8::from_str_radix(byte, 16).ok());
-        return Some(Command::Call(bytes.collect::<Option<_>>()?));
+        return Some(Command::Call(read_bytes(rest)?));
+    }
+    if let ("plan", ["bytes", bytes @ ..]) = (word, rest) {
+        return Some(Command::Plan(read_bytes(bytes)?));
     }
     if word == "plan" {
         return read_plan(rest);
@@ -121,8 +125,8 @@ fn read_command(text: &str) -> Option<Command> {
         ("restart", Some([])) => Command::Call(record::write(Record::Recover)),
         ("setup", Some([])) => Command::Setup,
         ("deliver", Some(&[n])) => Command::Deliver(n.try_into().ok()?),
-        ("sizes", Some(&[boards, wires])) => Command::Plan(plan(boards, vec![(0, 0); wires])?),
-        ("largest", Some([])) => Command::Plan(plan(16, (0..64).map(largest).collect())?),
+        ("sizes", Some(&[boards, wires])) => Command::Plan(plan(boards, vec![(0, 0); wires], 0)?),
+        ("largest", Some([])) => Command::Plan(plan(16, (0..64).map(largest).collect(), 0)?),
         ("current", Some(&[stores])) => Command::Current(stores.try_into().ok()?),
         ("board", Some(&[board])) => Command::Board(board),
         ("wire", Some(&[wire])) => Command::Wire(wire),
@@ -143,20 +147,36 @@ fn largest(wire: usize) -> (usize, usize) {
     (wire % 16, (wire + 1 + wire / 16) % 16)
 }
 
+fn read_bytes(words: &[&str]) -> Option<Vec<u8>> {
+    words.iter().map(|byte| u8::from_str_radix(byte, 16).ok()).collect()
+}
+
 fn read_plan(words: &[&str]) -> Option<Command> {
-    let (boards, ends) = words.split_first()?;
+    let (boards, rest) = words.split_first()?;
+    let mut parts = rest.splitn(2, |word| *word == "late");
+    let ends = parts.next()?;
+    let late = read_late(parts.next())?;
     let wires = ends.iter().map(|end| {
         let (from, to) = end.split_once('>')?;
         Some((from.parse().ok()?, to.parse().ok()?))
     });
-    Some(Command::Plan(plan(boards.parse().ok()?, wires.collect::<Option<_>>()?)?))
+    Some(Command::Plan(plan(boards.parse().ok()?, wires.collect::<Option<_>>()?, late)?))
+}
+
+/// The map of the boards that are named; a word that isn't one of 16 has none.
+fn read_late(boards: Option<&[&str]>) -> Option<u16> {
+    boards.unwrap_or_default().iter().try_fold(0, |map, board| {
+        let board: u32 = board.parse().ok()?;
+        Some(map | 1_u16.checked_shl(board)?)
+    })
 }
 
 /// A plan's bytes; none where a number takes more than one.
-fn plan(boards: usize, wires: Vec<(usize, usize)>) -> Option<Vec<u8>> {
+fn plan(boards: usize, wires: Vec<(usize, usize)>, late: u16) -> Option<Vec<u8>> {
     let mut bytes = vec![u8::try_from(boards).ok()?, u8::try_from(wires.len()).ok()?];
     for (from, to) in wires {
         bytes.extend([u8::try_from(from).ok()?, u8::try_from(to).ok()?]);
     }
+    bytes.extend(late.to_le_bytes());
     Some(bytes)
 }

@@ -38,8 +38,25 @@ pub fn sent(room: u8) -> Told {
     unwritten(b's', room as u32)
 }
 
+// Logged, so that there are writes.
+pub fn logged(body: u32, made: u32) -> Told {
+    Told {
+        word: b't',
+        value: body,
+        made,
+    }
+}
+
 pub fn took(body: u32) -> Told {
-    unwritten(b't', body)
+    logged(body, 0)
+}
+
+pub fn cut(made: u32) -> Told {
+    Told {
+        word: b'c',
+        value: 0,
+        made,
+    }
 }
 
 pub fn note() -> Told {
@@ -62,7 +79,7 @@ fn as_told(outcome: Outcome, made: u32) -> Told {
         Outcome::Received(body) => took(body),
         Outcome::ReceivedMarker => note(),
         Outcome::Refused(r) => refused(rules::refusal::number(r)),
-        Outcome::PowerLost => unwritten(b'c', 0),
+        Outcome::PowerLost => cut(0),
     };
     told.made = made;
     told
@@ -84,8 +101,19 @@ pub fn from(state: State) -> Trial {
 
 // After one more step.
 pub fn then(trial: Trial, step: Step, store: &mut [u32], expected: Told) -> Trial {
+    then_within(FULL_BUDGET, trial, step, store, expected)
+}
+
+// The same with a power that lasts for so many writes.
+pub fn then_within(
+    budget: u32,
+    trial: Trial,
+    step: Step,
+    store: &mut [u32],
+    expected: Told,
+) -> Trial {
     let before = trial.state;
-    let answer = engine::step(before, step, store, FULL_BUDGET);
+    let answer = engine::step(before, step, store, budget);
     let outcome = answer.outcome;
     let ok = trial.ok && same(as_told(outcome, answer.made), expected);
     let state = answer.state;

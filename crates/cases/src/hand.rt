@@ -54,11 +54,22 @@ pub fn pair() -> Topology {
     two_channels(0, 1, 1, 0)
 }
 
+// Bit p of the map: process p is late.
+pub fn with_late(mut topology: Topology, map: u16) -> Topology {
+    topology.late = map;
+    topology
+}
+
 // The state that initialize leaves for the pair: idle at line 0, words and tags 0, channels and logs empty.
 pub fn idle() -> State {
     let mut store = [RUBBISH; STORE_CELLS];
     let started = engine::initialize(pair(), &mut store);
     started.state
+}
+
+// The same for the pair with process 1 late.
+pub fn idle_late() -> State {
+    with_topology(idle(), with_late(pair(), 2))
 }
 
 pub fn with_topology(mut state: State, topology: Topology) -> State {
@@ -125,6 +136,22 @@ pub fn with_all_set(mut state: State) -> State {
     let mut flags = state.flags;
     flags.logical = [true; PROCESSES];
     flags.closed = [true; CHANNELS];
+    state.flags = flags;
+    state
+}
+
+// A process with its logical checkpoint.
+pub fn with_logical(mut state: State, process: usize) -> State {
+    let mut flags = state.flags;
+    flags.logical[process % PROCESSES] = true;
+    state.flags = flags;
+    state
+}
+
+// A late process with its physical checkpoint in this round.
+pub fn with_saved(mut state: State, process: usize) -> State {
+    let mut flags = state.flags;
+    flags.saved[process % PROCESSES] = true;
     state.flags = flags;
     state
 }

@@ -1,4 +1,5 @@
-// Cases that no input of the programs can make: a state or a store is made by hand, and the engine is called on it.
+// Cases that no input of the programs can make: a plan, a state or a store is made by hand, and the engine, a reduction
+// or a carrying is called on it.
 // A line for each: "ok" or "FAILED", and the papers' sentence, or ours where they have none. The other cases of
 // document 01 are in tests/scripts/. Its words here (docs/VOCABULARY.md): copying and marking are the physical and the
 // logical phase, to copy and to mark a board a process's physical and logical checkpoint, to take a message to receive
@@ -8,6 +9,8 @@
 mod expected;
 mod hand;
 mod kinds;
+mod late;
+mod products;
 mod starts;
 mod unsound;
 
@@ -35,6 +38,7 @@ use crate::hand::send;
 use crate::hand::sized;
 use crate::hand::two_channels;
 use crate::hand::with_closed;
+use crate::hand::with_late;
 use crate::hand::with_marker;
 use crate::hand::with_messages;
 use crate::hand::with_other_tag;
@@ -89,6 +93,8 @@ fn short_store() {
         && starts_short(one_channel(0, 2), refused(3))
         && starts_short(one_channel(1, 1), refused(4))
         && starts_short(two_channels(0, 1, 0, 1), refused(5))
+        && starts_short(with_late(good, 4), refused(19))
+        && starts_short(with_late(two_channels(0, 1, 0, 1), 4), refused(5))
         && gives_short(sound, send(0), refused(6))
         && gives_short(sound, Step::Receive { channel: 9 }, refused(6))
         && gives_short(sound, Step::Begin, refused(6))
@@ -96,7 +102,7 @@ fn short_store() {
         && gives_short(nine, Step::Begin, refused(15))
         && gives(sound, Step::Begin, done(3));
     tell(
-        b"6 store under 5,313 cells: after 1 to 5 and 15, before 8 and 12.",
+        b"6 store under 5,313 cells: after 1 to 5, 19 and 15, before 8 and 12.",
         ok,
     );
 }
@@ -208,6 +214,7 @@ fn logged_channels() {
 fn main() {
     last_line();
     unsound::topologies();
+    unsound::late_bit();
     short_store();
     marker_on_closed();
     take_outside_logical();
@@ -217,10 +224,18 @@ fn main() {
     unsound::message_log();
     unsound::channel_log();
     unsound::next_process();
+    unsound::late_next();
     unsound::round();
     unsound::before_others();
     stored_counts();
     other_counts();
     logged_channels();
     kinds::steps();
+    products::unknown_late();
+    late::copies();
+    late::outside_marking();
+    late::saved_unmarked();
+    late::anti_messages();
+    late::two_logs();
+    late::undoing();
 }

@@ -10,6 +10,7 @@ use crate::hand::RUBBISH;
 use crate::hand::STORE_CELLS;
 use crate::hand::pair;
 use crate::hand::sized;
+use crate::hand::with_late;
 use model::Start;
 use model::Started;
 use model::Topology;
@@ -17,11 +18,17 @@ use model::Topology;
 // Cells of the slot for line 0, which starts at 1. In it the record of process p starts at 130 × p: its physical
 // checkpoint, its log's count, a body and a channel for each entry. That of channel c starts at 2,080 + 9 × c: its
 // log's count, a body for each entry.
+const CHECKPOINT_OF_PROCESS_0: usize = 1;
+
 const COUNT_OF_PROCESS_0: usize = 1 + 1;
 
 const FIRST_BODY: usize = 1 + 2;
 
 const FIRST_CHANNEL: usize = 1 + 3;
+
+const SECOND_BODY: usize = 1 + 4;
+
+const SECOND_CHANNEL: usize = 1 + 5;
 
 pub const COUNT_OF_PROCESS_1: usize = 1 + 130 + 1;
 
@@ -77,6 +84,22 @@ pub fn replayed(channel: u32) -> u32 {
     store[COUNT_OF_PROCESS_0] = 1;
     store[FIRST_BODY] = BODY;
     store[FIRST_CHANNEL] = channel;
+    let started = recovery::recover(alone, &store);
+    let state = started.state;
+    state.words[0]
+}
+
+// The same where process 0 is late, from this physical checkpoint and two anti-messages, received on these channels.
+pub fn undone(checkpoint: u32, first: u32, second: u32) -> u32 {
+    let alone = with_late(sized(1, 0), 1);
+    let mut store = [RUBBISH; STORE_CELLS];
+    engine::initialize(alone, &mut store);
+    store[CHECKPOINT_OF_PROCESS_0] = checkpoint;
+    store[COUNT_OF_PROCESS_0] = 2;
+    store[FIRST_BODY] = BODY;
+    store[FIRST_CHANNEL] = first;
+    store[SECOND_BODY] = BODY;
+    store[SECOND_CHANNEL] = second;
     let started = recovery::recover(alone, &store);
     let state = started.state;
     state.words[0]

@@ -9,12 +9,15 @@ use crate::hand::BODY;
 use crate::hand::LAST_LINE;
 use crate::hand::at_line;
 use crate::hand::idle;
+use crate::hand::idle_late;
 use crate::hand::in_phase;
 use crate::hand::one_channel;
+use crate::hand::pair;
 use crate::hand::send;
 use crate::hand::sized;
 use crate::hand::two_channels;
 use crate::hand::with_channel_log;
+use crate::hand::with_late;
 use crate::hand::with_message_log;
 use crate::hand::with_messages;
 use crate::hand::with_topology;
@@ -40,6 +43,24 @@ pub fn topologies() {
         && gives(idle(), Step::Begin, done(4));
     tell(
         b"15 state unsound: its plan meets 1 to 5. A restart by that plan: 1 to 5.",
+        ok,
+    );
+}
+
+// Bit 2 is the first that the pair doesn't have, bit 15 the last there is. Channel 1 is doubled (5).
+pub fn late_bit() {
+    let all = with_late(sized(16, 0), 65535);
+    let ok = bad(with_late(pair(), 4), 19)
+        && bad(with_late(pair(), 32768), 19)
+        && bad(with_late(two_channels(0, 1, 0, 1), 4), 5)
+        && gives(
+            with_topology(idle(), with_late(pair(), 3)),
+            Step::Begin,
+            done(4),
+        )
+        && gives(with_topology(idle(), all), Step::Begin, done(16));
+    tell(
+        b"15 state unsound: a late bit for a board not in the plan. A restart by that plan: 19, after 5.",
         ok,
     );
 }
@@ -85,6 +106,18 @@ pub fn next_process() {
         && gives(last, Step::PhysicalCheckpoint { process: 1 }, done(1));
     tell(
         b"15 state unsound: the next board to copy isn't in the plan. The last board passes.",
+        ok,
+    );
+}
+
+pub fn late_next() {
+    let late = in_phase(idle_late(), Phase::Physical(1));
+    let early = in_phase(idle_late(), Phase::Physical(0));
+    let ok = gives(late, Step::PhysicalCheckpoint { process: 1 }, refused(15))
+        && gives(late, Step::Abort, refused(15))
+        && gives(early, Step::PhysicalCheckpoint { process: 0 }, done(1));
+    tell(
+        b"15 state unsound: a late board as the next to copy. An early one passes.",
         ok,
     );
 }

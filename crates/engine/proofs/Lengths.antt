@@ -17,6 +17,7 @@ pub record Lengths (s : State) : Type 0 where
   pub places : length (s .places) ≡ channelLimit
   pub lengths : length (s .lengths) ≡ channelLimit
   pub logical : length (s .flags .logical) ≡ processLimit
+  pub saved : length (s .flags .saved) ≡ processLimit
   pub closed : length (s .flags .closed) ≡ channelLimit
   pub sent : length (s .flags .sent) ≡ channelLimit
   pub inMessages : length (s .counts .messages) ≡ processLimit
@@ -32,8 +33,9 @@ lengths s v g =
       places = length-of _ (s .places) channelLimit (g .1 .1 .1 .1 .1 .1 .0 .1 .0 .1);
       lengths = length-of _ (s .lengths) channelLimit (g .1 .1 .1 .1 .1 .1 .1 .0 .1 .0 .1);
       logical = length-of _ (s .flags .logical) processLimit (flags .1 .1 .0 .1 .0 .1);
-      closed = length-of _ (s .flags .closed) channelLimit (flags .1 .1 .1 .0 .1 .0 .1);
-      sent = length-of _ (s .flags .sent) channelLimit (flags .1 .1 .1 .1 .0 .1 .0 .1);
+      saved = length-of _ (s .flags .saved) processLimit (flags .1 .1 .1 .0 .1 .0 .1);
+      closed = length-of _ (s .flags .closed) channelLimit (flags .1 .1 .1 .1 .0 .1 .0 .1);
+      sent = length-of _ (s .flags .sent) channelLimit (flags .1 .1 .1 .1 .1 .0 .1 .0 .1);
       inMessages = length-of _ (s .counts .messages) processLimit (counts .1 .1 .0 .1 .0 .1);
       inChannels = length-of _ (s .counts .channels) channelLimit (counts .1 .1 .1 .0 .1 .0 .1);
     }

@@ -8,7 +8,6 @@ pub mod Promises
 pub mod Aborting
 pub mod Clearing
 pub mod Turning
-pub mod Phases
 pub mod Subjects
 pub mod WriteBack
 pub mod Receptions

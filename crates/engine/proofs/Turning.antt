@@ -18,10 +18,11 @@ use Rattle.model.specs.Check.{firstRefusal}
 use Rattle.model.specs.Channel.{entries}
 use Rattle.model.specs.Topology.{sender, receiver, hasProcess, hasChannel}
 use Rattle.model.specs.Phase.{isIdle}
-use Rattle.model.specs.State.{GlobalState, Progress}
+use Rattle.model.specs.State.{GlobalState, Progress, noCounts}
 use Rattle.model.specs.Sound.{lastLine, lineSound}
+use Rattle.model.specs.Change.{withCounts}
 use Rattle.model.specs.Write.{Result, Write, underBudget, writeAll}
-use Rattle.model.specs.Step.{ownChecks, resultOf, effect, quietly}
+use Rattle.model.specs.Step.{ownChecks, resultOf, physicalFrom, effect, quietly}
 use Rattle.model.specs.Outcome.{refusalNumber, saidBy}
 use Rattle.model.specs.Heard.{accepted}
 use Rattle.model.specs.Outcome as says
@@ -33,7 +34,7 @@ use Rattle.engine.specs.declared.spot.Spot.{Spot}
 use Rattle.engine.specs.declared.spot.Turn.{Turn}
 use Rattle.engine.specs.Answers.{ownResult}
 use Rattle.engine.specs.Spots.{at, noSuch, sending, receiving, onProcess, Sees, Seen, putBack}
-use Rattle.engine.specs.Spots.{Turns, QuietTurn, stopping}
+use Rattle.engine.specs.Spots.{Turns, QuietTurn, GoesFrom, stopping}
 use Rattle.engine.proofs.Promises.{unbudgeted}
 
 -- a subject that was found
@@ -142,6 +143,20 @@ module _ (s : Spot) (x : Step) where
             went = a ∙ sym w;
           }
 
+      -- one that lets the physical checkpoints go on
+      pub turns-from : {from m : ℕ} {counts : Bool} {t : Turn} → GoesFrom s from counts m t → m ≡ length ws
+          → length ws ≤ budget
+          → ((g : GlobalState) → Sees g x s → effect g x
+          ≡ record {
+            outcome = says.done;
+            state = physicalFrom from (withCounts (cond counts noCounts (g .counts)) g);
+            writes = ws;
+          })
+          → Turns s x before budget t after
+      turns-from {t = t} on m l f =
+          turns-done t (on .went) (on .made ∙ m) (rw (on .outcome)) l
+          (λ g v. f g v ∙ rw (on .state x g v, on .outcome))
+
 -- What a turn leaves as it was is written back as it was.
 module _ {g : GlobalState} {x : Step} {s : Spot} (v : Sees g x s) where
   pub same-word : upd (g .word) (s .process) (s .word) ≡ g .word
@@ -156,6 +171,9 @@ module _ {g : GlobalState} {x : Step} {s : Spot} (v : Sees g x s) where
   pub same-logical : upd (g .progress .logical) (s .process) (s .logical) ≡ g .progress .logical
   same-logical = unchanged _ _ _ (v .logical)
 
+  pub same-saved : upd (g .progress .saved) (s .process) (s .saved) ≡ g .progress .saved
+  same-saved = unchanged _ _ _ (v .saved)
+
   pub same-closed : upd (g .progress .closed) (s .channel) (s .closed) ≡ g .progress .closed
   same-closed = unchanged _ _ _ (v .closed)
 
@@ -164,11 +182,13 @@ module _ {g : GlobalState} {x : Step} {s : Spot} (v : Sees g x s) where
 
   pub same-progress : record {
     logical = upd (g .progress .logical) (s .process) (s .logical);
+    saved = upd (g .progress .saved) (s .process) (s .saved);
     closed = upd (g .progress .closed) (s .channel) (s .closed);
     sent = upd (g .progress .sent) (s .channel) (s .sent);
   }
       ≡ g .progress
-  same-progress = λ i. record { logical = same-logical i; closed = same-closed i; sent = same-sent i }
+  same-progress =
+      λ i. record { logical = same-logical i; saved = same-saved i; closed = same-closed i; sent = same-sent i }
 
   pub same-counts : record {
     messages = upd (g .counts .messages) (s .process) (s .«in_messages»);
@@ -182,8 +202,9 @@ module _ {g : GlobalState} {x : Step} {s : Spot} (v : Sees g x s) where
       }
 
 -- a round's progress, part by part
-pub same-flags : {a b : Progress} → a .logical ≡ b .logical → a .closed ≡ b .closed → a .sent ≡ b .sent → a ≡ b
-same-flags l c t = λ i. record { logical = l i; closed = c i; sent = t i }
+pub same-flags : {a b : Progress} → a .logical ≡ b .logical → a .saved ≡ b .saved → a .closed ≡ b .closed
+    → a .sent ≡ b .sent → a ≡ b
+same-flags l v c t = λ i. record { logical = l i; saved = v i; closed = c i; sent = t i }
 
 -- a round under way is for a line that has a number
 pub next-line : {x : Step} {s : Spot} → Seen x s → isIdle (s .round .phase) ≡ false → s .round .line < 2 ^ 32

@@ -12,11 +12,12 @@ use Rattle.model.specs.declared.Places.{Places}
 use Rattle.model.specs.declared.Step.{Step}
 use Rattle.model.specs.declared.Answer.{Answer}
 use Rattle.model.specs.Notation.{upd}
-use Rattle.model.specs.Topology.{processLimit, channelLimit}
+use Rattle.model.specs.Topology.{processLimit, channelLimit, isLate}
 use Rattle.model.specs.Channel.{held, placesOf}
 use Rattle.model.specs.State.{GlobalState, Progress, LogCounts, noProgress, noCounts, viewProgress, viewCounts, view}
 use Rattle.model.specs.Change.{withChannel, plainChannels}
 use Rattle.model.specs.Write.{Answered}
+use Rattle.model.specs.Step.{hasPhysical}
 use Rattle.model.proofs.laws.Tests.{true-is-not-false}
 use Rattle.model.proofs.laws.Functions.{seen-set, seen-replicate}
 use Rattle.engine.specs.declared.spot.Subject.{Subject}
@@ -53,6 +54,8 @@ pub record Rewritten (s : State) (l : Subject) (r : Turn) (t : List Bool) (f : F
   pub tags : t ≡ rewritten processLimit false (r .reset .tags) (s .tags) (l .process) (r .spot .tag)
   pub logical : f .logical
       ≡ rewritten processLimit false (r .reset .flags) (s .flags .logical) (l .process) (r .spot .logical)
+  pub saved : f .saved
+      ≡ rewritten processLimit false (r .reset .flags) (s .flags .saved) (l .process) (r .spot .saved)
   pub closed : f .closed
       ≡ rewritten channelLimit false (r .reset .flags) (s .flags .closed) (l .channel) (r .spot .closed)
   pub sent : f .sent ≡ rewritten channelLimit false (r .reset .flags) (s .flags .sent) (l .channel) (r .spot .sent)
@@ -62,13 +65,18 @@ pub record Rewritten (s : State) (l : Subject) (r : Turn) (t : List Bool) (f : F
       ≡ rewritten channelLimit 0 (r .reset .counts) (s .counts .channels) (l .channel) (r .spot .«in_channel»)
 
 -- set back part by part, or as a whole
-progress-parts : (z : Bool) (a b c : ℕ → Bool)
+progress-parts : (z : Bool) (a b c d : ℕ → Bool)
     → _≡_ {A = Progress}
-    (record { logical = cond z (λ i. false) a; closed = cond z (λ i. false) b; sent = cond z (λ i. false) c })
-    (cond z noProgress (record { logical = a; closed = b; sent = c }))
+    (record {
+      logical = cond z (λ i. false) a;
+      saved = cond z (λ i. false) b;
+      closed = cond z (λ i. false) c;
+      sent = cond z (λ i. false) d;
+    })
+    (cond z noProgress (record { logical = a; saved = b; closed = c; sent = d }))
 unfolding noProgress
-progress-parts true a b c = refl
-progress-parts false a b c = refl
+progress-parts true a b c d = refl
+progress-parts false a b c d = refl
 
 counts-parts : (z : Bool) (a b : ℕ → ℕ)
     → _≡_ {A = LogCounts} (record { messages = cond z (λ i. 0) a; channels = cond z (λ i. 0) b })
@@ -80,12 +88,13 @@ counts-parts false a b = refl
 module _ (s : State) (n : Lengths s) (l : Subject) (w : Within (s .topology) l) (x : Step) (c : Channel) where
   pub sees : subjectOf (s .topology) x ≡ At l → (d : Places)
       → c ≡ held (getD (s .places) (l .channel) d) (getD (s .lengths) (l .channel) 0) → Sees (view s) x (spotAt s x l c)
-  unfolding view viewProgress viewCounts
+  unfolding view viewProgress viewCounts hasPhysical isLate
   sees e d q =
       record {
         subject = e;
         processes = refl;
         channels = refl;
+        late = refl;
         round = refl;
         held = channel-read s (l .channel) (rw (n .places) (w .channel)) d q;
         closed = refl;
@@ -94,6 +103,7 @@ module _ (s : State) (n : Lengths s) (l : Subject) (w : Within (s .topology) l) 
         word = refl;
         tag = refl;
         logical = refl;
+        saved = refl;
         inMessages = refl;
         first = refl;
         through = refl;
@@ -142,10 +152,11 @@ module _ (s : State) (n : Lengths s) (l : Subject) (w : Within (s .topology) l) 
         let z = r .reset .flags in
         (λ i. record {
           logical = of-processes false z (s .flags .logical) (r .spot .logical) (n .logical) (a .logical) i;
+          saved = of-processes false z (s .flags .saved) (r .spot .saved) (n .saved) (a .saved) i;
           closed = of-channels false z (s .flags .closed) (r .spot .closed) (n .closed) (a .closed) i;
           sent = of-channels false z (s .flags .sent) (r .spot .sent) (n .sent) (a .sent) i;
         })
-        ∙ progress-parts z _ _ _
+        ∙ progress-parts z _ _ _ _
 
     counts : viewCounts k ≡ back .counts
     unfolding putBack view viewCounts

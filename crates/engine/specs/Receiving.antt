@@ -11,6 +11,7 @@ use Rattle.model.specs.declared.Receipt.{Receipt}
 use Rattle.model.specs.declared.Receiver.{Receiver}
 use Rattle.model.specs.declared.Entry.{Entry}
 use Rattle.model.specs.declared.Entry.the-variants.{Message, Marker}
+use Rattle.model.specs.Notation.{bitOf}
 use Rattle.model.specs.Word.{receipt, enter}
 use Rattle.model.specs.Topology.{processLimit, channelLimit}
 use Rattle.model.specs.Channel.{entries}
@@ -30,7 +31,14 @@ pub record Fits (s : Spot) : Type 0 where
 
 -- the receiver
 abbrev pub receiverOf : Spot → Receiver
-receiverOf s = record { process = s .process; logical = s .logical; tag = s .tag }
+receiverOf s =
+    record {
+      process = s .process;
+      late = bitOf (s .late) (s .process);
+      logical = s .logical;
+      saved = s .saved;
+      tag = s .tag;
+    }
 
 -- whether a log that the reaction needs is full
 abbrev pub fullFor : Reaction → Spot → Bool
@@ -58,6 +66,7 @@ pub record Received (s : Spot) (e : Entry) (x : Reaction) (n : Spot) : Type 0 wh
   pub word : n .word ≡ wordAfter (s .channel) e (s .word)
   pub tag : n .tag ≡ cond (x .«logical_first») (not (s .tag)) (s .tag)
   pub logical : n .logical ≡ (s .logical || x .«logical_first»)
+  pub saved : n .saved ≡ s .saved
   pub closed : n .closed ≡ (s .closed || x .closes)
   pub sent : n .sent ≡ s .sent
   pub inChannel : n .«in_channel» ≡ s .«in_channel» + boolByte (x .«channel_log»)

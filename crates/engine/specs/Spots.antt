@@ -1,7 +1,7 @@
 -- A step on one spot: what it is about, when a state is seen so there, and what a state becomes by the turn.
 use Prim.Native.Nat.{ℕ, _<_, _≤_}
 use mathlib.Core.Path.{_≡_}
-use mathlib.Core.Bool.{Bool, true, false, cond, _&&_}
+use mathlib.Core.Bool.{Bool, true, false, cond, not, _&&_, _||_}
 use mathlib.Core.List.{List, []}
 use lib.ListN.{getD, set, replicate}
 use lib.Dec.{ltb}
@@ -9,8 +9,6 @@ use Rattle.model.specs.declared.Answer.{Answer}
 use Rattle.model.specs.declared.Channel.{Channel}
 use Rattle.model.specs.declared.Counts.{Counts}
 use Rattle.model.specs.declared.Flags.{Flags}
-use Rattle.model.specs.declared.Phase.{Phase}
-use Rattle.model.specs.declared.Phase.the-variants.{Physical, Logical}
 use Rattle.model.specs.declared.Refusal.the-variants.{NoSuch, ShortStore, Unsound}
 use Rattle.model.specs.declared.Round.{Round}
 use Rattle.model.specs.declared.State.{State}
@@ -19,17 +17,19 @@ use Rattle.model.specs.declared.Step.{Step}
 use Rattle.model.specs.declared.Step.the-variants.{Send, Receive, Begin, PhysicalCheckpoint}
 use Rattle.model.specs.declared.Step.the-variants.{LogicalCheckpoint, SendMarker, Commit, Abort}
 use Rattle.model.specs.declared.Outcome.{Outcome}
-use Rattle.model.specs.Notation.{upd, allBelow}
+use Rattle.model.specs.declared.Outcome.the-variants.{Done}
+use Rattle.model.specs.Notation.{upd, allBelow, bitOf}
 use Rattle.model.specs.Topology.{processLimit, channelLimit, sender, receiver, hasProcess, hasChannel}
 use Rattle.model.specs.Channel.{entries}
+use Rattle.model.specs.Phase.{isLogical, isNext}
 use Rattle.model.specs.Layout.{storeCells}
 use Rattle.model.specs.State.{GlobalState, noProgress, noCounts, view}
 use Rattle.model.specs.Sound.{sound}
-use Rattle.model.specs.Change.{plainChannels}
+use Rattle.model.specs.Change.{plainChannels, withCounts}
 use Rattle.model.specs.Outcome.{saidBy}
 use Rattle.model.specs.Heard.{accepted}
 use Rattle.model.specs.Write.{Write, underBudget, clearWrites}
-use Rattle.model.specs.Step.{quietly}
+use Rattle.model.specs.Step.{hasPhysical, physicalFrom, quietly}
 use Rattle.engine.specs.declared.spot.Subject.{Subject}
 use Rattle.engine.specs.declared.spot.Admission.{Admission}
 use Rattle.engine.specs.declared.spot.Admission.the-variants.{At}
@@ -86,11 +86,11 @@ isCommit (SendMarker c) = false
 isCommit Commit = true
 isCommit Abort = false
 
--- "every board marked, every wire closed", asked for a commit alone
+-- "every board marked, every wire closed", and every late board copied: "finish waits for it"; asked for a commit alone
 abbrev pub throughFor : GlobalState → Step → Bool
 throughFor g x =
     cond (isCommit x)
-    (allBelow (g .topology .processes) (g .progress .logical)
+    (allBelow (g .topology .processes) (λ p. g .progress .logical p && hasPhysical g p)
     && allBelow (g .topology .channels) (g .progress .closed))
     false
 
@@ -99,6 +99,7 @@ pub record Sees (g : GlobalState) (x : Step) (s : Spot) : Type 0 where
   pub subject : subjectOf (g .topology) x ≡ at (s .channel) (s .process)
   pub processes : g .topology .processes ≡ s .processes
   pub channels : g .topology .channels ≡ s .channels
+  pub late : g .topology .late ≡ s .late
   pub round : g .round ≡ s .round
   pub held : g .channel (s .channel) ≡ entries (s .held)
   pub closed : g .progress .closed (s .channel) ≡ s .closed
@@ -107,6 +108,7 @@ pub record Sees (g : GlobalState) (x : Step) (s : Spot) : Type 0 where
   pub word : g .word (s .process) ≡ s .word
   pub tag : g .tag (s .process) ≡ s .tag
   pub logical : g .progress .logical (s .process) ≡ s .logical
+  pub saved : g .progress .saved (s .process) ≡ s .saved
   pub inMessages : g .counts .messages (s .process) ≡ s .«in_messages»
   pub first : g .progress .logical 0 ≡ s .first
   pub through : throughFor g x ≡ s .through
@@ -131,6 +133,7 @@ putBack s r g =
           cond (r .reset .flags) noProgress
           (record {
             logical = upd (g .progress .logical) (s .process) (r .spot .logical);
+            saved = upd (g .progress .saved) (s .process) (r .spot .saved);
             closed = upd (g .progress .closed) (s .channel) (r .spot .closed);
             sent = upd (g .progress .sent) (s .channel) (r .spot .sent);
           });
@@ -160,13 +163,23 @@ pub record QuietTurn (s : Spot) (x : Step) (r : Turn) : Type 0 where
   pub made : r .made ≡ 0
   pub went : accepted (saidBy (r .outcome)) ≡ r .went
 
--- the phase from the physical checkpoint of process `from` on, where there are n
-abbrev pub phaseFrom : ℕ → ℕ → Phase
-phaseFrom n from = cond (ltb from n) (Physical from) Logical
+-- whether the spot's process, which is late or not, may have its physical checkpoint
+abbrev pub mayPhysically : Spot → Bool → Bool
+mayPhysically s late =
+    cond late (isLogical (s .round .phase) && s .logical && not (s .saved)) (isNext (s .round .phase) (s .process))
+
+-- An accepted turn after m writes: in every state seen so the physical checkpoints go on from process `from`, with the
+-- logs' counts set back or not.
+pub record GoesFrom (s : Spot) (from : ℕ) (counts : Bool) (m : ℕ) (r : Turn) : Type 0 where
+  pub went : r .went ≡ true
+  pub outcome : r .outcome ≡ Done
+  pub made : r .made ≡ m
+  pub state : (x : Step) (g : GlobalState) → Sees g x s
+      → physicalFrom from (withCounts (cond counts noCounts (g .counts)) g) ≡ putBack s r g
 
 -- a topology of these sizes: what a begin clears goes by the sizes alone
 abbrev pub sized : ℕ → ℕ → Topology
-sized processes channels = record { processes = processes; channels = channels; from = []; to = [] }
+sized processes channels = record { processes = processes; channels = channels; from = []; to = []; late = 0 }
 
 abbrev pub clearing : ℕ → ℕ → ℕ → List Write
 clearing processes channels line = clearWrites (sized processes channels) line
@@ -175,9 +188,16 @@ clearing processes channels line = clearWrites (sized processes channels) line
 abbrev pub allSet : List Bool → ℕ → Bool
 allSet flags n = allBelow n (λ i. getD flags i false)
 
--- by the code's flags: "every board marked, every wire closed", asked for a commit alone
-abbrev pub throughIn : List Bool → List Bool → ℕ → ℕ → Step → Bool
-throughIn logical closed n m x = cond (isCommit x) (allSet logical n && allSet closed m) false
+-- by the code's flags and the map of late processes: whether each of the first n processes has its logical checkpoint
+-- and, if it is late, its physical one
+abbrev pub allCheckpointed : (logical saved : List Bool) (late n : ℕ) → Bool
+allCheckpointed logical saved late n =
+    allBelow n (λ p. getD logical p false && (not (bitOf late p) || getD saved p false))
+
+-- and whether each channel is closed too, for a whole topology, asked for a commit alone
+abbrev pub throughIn : Step → Topology → (logical saved closed : List Bool) → Bool
+throughIn x T logical saved closed =
+    cond (isCommit x) (allCheckpointed logical saved (T .late) (T .processes) && allSet closed (T .channels)) false
 
 -- a subject and a topology's sizes that are within a state's arrays
 pub record Within (T : Topology) (at : Subject) : Type 0 where
@@ -194,6 +214,7 @@ spotOf x at T round held flags counts word tag =
       process = at .process;
       processes = T .processes;
       channels = T .channels;
+      late = T .late;
       round = round;
       held = held;
       closed = getD (flags .closed) (at .channel) false;
@@ -202,9 +223,10 @@ spotOf x at T round held flags counts word tag =
       word = word;
       tag = tag;
       logical = getD (flags .logical) (at .process) false;
+      saved = getD (flags .saved) (at .process) false;
       «in_messages» = getD (counts .messages) (at .process) 0;
       first = getD (flags .logical) 0 false;
-      through = throughIn (flags .logical) (flags .closed) (T .processes) (T .channels) x;
+      through = throughIn x T (flags .logical) (flags .saved) (flags .closed);
     }
 
 -- an array of n places with one of them written, or all set back to z

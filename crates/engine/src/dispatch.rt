@@ -114,12 +114,11 @@ pub fn step(mut state: State, step: Step, store: &mut [u32], budget: u32) -> Ans
     let c = at.channel as usize;
     let p = at.process as usize;
     let t = state.topology;
-    let flags = state.flags;
-    let counts = state.counts;
+    let logs = state.counts;
     let held = channel::held(state.places[c], state.lengths[c]);
     let word = state.words[p];
     let tag = state.tags[p];
-    let s = spot::read(step, at, t, state.round, held, flags, counts, word, tag);
+    let s = spot::read(step, at, t, state.round, held, state.flags, logs, word, tag);
     let came = turn(step, s, store, budget);
     if !came.went {
         return answered(came, state);
@@ -131,6 +130,7 @@ pub fn step(mut state: State, step: Step, store: &mut [u32], budget: u32) -> Ans
     state.words[p] = new.word;
     write::process_flag(&mut state.tags, reset.tags, p, new.tag);
     write::process_flag(&mut state.flags.logical, reset.flags, p, new.logical);
+    write::process_flag(&mut state.flags.saved, reset.flags, p, new.saved);
     write::channel_flag(&mut state.flags.closed, reset.flags, c, new.closed);
     write::channel_flag(&mut state.flags.sent, reset.flags, c, new.sent);
     write::process_count(&mut state.counts.messages, reset.counts, p, new.in_messages);

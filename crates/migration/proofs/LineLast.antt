@@ -10,10 +10,10 @@ use Rattle.model.specs.declared.Topology.{Topology}
 use Rattle.model.specs.Form.{Form, cell, lineCell, channelLog, slot, processRecord, channelRecord, physicalCell}
 use Rattle.model.specs.Form.{countCell, logged}
 use Rattle.model.specs.Write.{Write, writeAll, cellWrites, commitWrites}
-use Rattle.model.specs.Recover.{storedLine, restored}
+use Rattle.model.specs.Recover.{storedLine}
 use Rattle.model.proofs.store.Writes.{Each, each-take, each-append, each-concat, kept}
-use Rattle.migration.specs.Carry.{processWrites, processesWrites, bodiesWrites, channelsWrites, carryWrites}
-use Rattle.migration.specs.Carry.{carryRefusal, carriedOr, carry}
+use Rattle.migration.specs.Carry.{finishedWord, processWrites, processesWrites, bodiesWrites, channelsWrites}
+use Rattle.migration.specs.Carry.{carryWrites, carryRefusal, carriedOr, carry}
 use Rattle.migration.specs.LineLast.{LineLast}
 use Rattle.migration.proofs.Admitting.{carriable, carried-refusal}
 use Rattle.migration.proofs.Left.{cells-spare}
@@ -47,8 +47,8 @@ module _ (F G : Form) (T : Topology) (source target : List ℕ) where
   unfolding processesWrites channelsWrites
   before-past =
       each-append Past (processesWrites F G T source) (channelsWrites F G T source)
-      (each-concat Past (T .processes) (λ p. processWrites G k p (restored F source k p))
-      (λ p l. process-past G k p (restored F source k p)))
+      (each-concat Past (T .processes) (λ p. processWrites G k p (finishedWord F T source p))
+      (λ p l. process-past G k p (finishedWord F T source p)))
       (each-concat Past (T .channels) (λ c. bodiesWrites (countCell G k (channelLog c)) (logged F source k c))
       (λ c l. channel-past G k c (logged F source k c)))
 

@@ -10,20 +10,20 @@ use borrow.Author.Tests.{ltb-true, le-leb, le-ltb}
 use Rattle.model.specs.declared.Topology.{Topology}
 use Rattle.model.specs.Notation.{tabulate}
 use Rattle.model.specs.Check.{firstRefusal}
-use Rattle.model.specs.Topology.{hasProcess, hasChannel}
-use Rattle.model.specs.Word.{replayBy}
+use Rattle.model.specs.Topology.{hasProcess, hasChannel, isLate}
 use Rattle.model.specs.Channel.{messages}
 use Rattle.model.specs.Form.{Form, cell, Log, messageLog, channelLog, places, physicalCell, countCell}
 use Rattle.model.specs.Form.{entriesFrom, entriesBy, receiptsBy, bodiesBy, logged}
 use Rattle.model.specs.Write.{writeAll}
 use Rattle.model.specs.Recover.{storedLine, startupOr, initializeRefusal, countFits, countsFit, recoverRefusal}
-use Rattle.model.specs.Recover.{restoredBy, restored, recoveredWord, recoveredChannel, recover}
+use Rattle.model.specs.Recover.{restored, recoveredWord, recoveredChannel, recover}
 use Rattle.model.proofs.laws.Tests.{and-both}
 use Rattle.model.proofs.laws.Lists.{all-of, tabulate-cong}
 use Rattle.model.proofs.laws.TopologyLaws.{Planned}
+use Rattle.model.proofs.laws.WordLaws.{restore-nothing}
 use Rattle.model.proofs.store.Writes.{length-writeAll}
 use Rattle.model.proofs.store.Readable.{bodies-are}
-use Rattle.migration.specs.Carry.{processesWrites, channelsWrites, carryWrites}
+use Rattle.migration.specs.Carry.{finishedWord, processesWrites, channelsWrites, carryWrites}
 use Rattle.migration.specs.Faithful.{Alike}
 use Rattle.migration.proofs.Admitting.{Carriable}
 use Rattle.migration.proofs.Copying.{counted, body-at}
@@ -38,7 +38,7 @@ module _ (F G : Form) (T : Topology) (source target : List ℕ) (r : Carriable F
   after = writeAll target (carryWrites F G T source)
 
   abbrev word : ℕ → ℕ
-  word p = restored F source k p
+  word p = finishedWord F T source p
 
   abbrev bodies : ℕ → List ℕ
   bodies c = logged F source k c
@@ -99,17 +99,17 @@ module _ (F G : Form) (T : Topology) (source target : List ℕ) (r : Carriable F
       )
 
   -- and gives the words: the logs are empty, and the checkpoints are the words
-  word-is : (p : ℕ) → p < T .processes → restored G after k p ≡ word p
-  unfolding restored restoredBy receiptsBy entriesBy entriesFrom tabulate replayBy
-  word-is p l = rw (message-is p l) (physical-is p l)
+  word-is : (p : ℕ) → p < T .processes → restored G (isLate T p) after k p ≡ word p
+  unfolding restored receiptsBy entriesBy entriesFrom tabulate
+  word-is p l = rw (message-is p l) (restore-nothing G (isLate T p) _ ∙ physical-is p l)
 
   words-are : recoveredWord G T after ≡ recoveredWord F T source
   unfolding recoveredWord hasProcess
   words-are = fun-ext (λ p. go p (ltb p (T .processes)) refl)
     where
       go : (p : ℕ) (t : Bool) → ltb p (T .processes) ≡ t
-          → cond (ltb p (T .processes)) (restored G after (storedLine after) p) 0
-          ≡ cond (ltb p (T .processes)) (restored F source k p) 0
+          → cond (ltb p (T .processes)) (restored G (isLate T p) after (storedLine after) p) 0
+          ≡ cond (ltb p (T .processes)) (word p) 0
       go p true e = rw (e, line-is) (word-is p (ltb-true _ _ e))
       go p false e = rw e
 

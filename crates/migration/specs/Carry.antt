@@ -8,9 +8,14 @@ use lib.Dec.{ltb}
 use Rattle.model.specs.declared.Topology.{Topology}
 use Rattle.model.specs.Notation.{concatBelow}
 use Rattle.model.specs.Check.{_gives_, firstRefusal}
+use Rattle.model.specs.Topology.{isLate}
 use Rattle.model.specs.Form.{Form, messageLog, channelLog, storeCells, physicalCell, countCell, logged}
 use Rattle.model.specs.Write.{Write, writeAll, cellWrites, commitWrites}
 use Rattle.model.specs.Recover.{storedLine, recoverRefusal, restored}
+
+-- the word of process p at the source's line, by the source's form: anti-messages of a late one are undone
+abbrev pub finishedWord : Form → Topology → List ℕ → ℕ → ℕ
+finishedWord F T source p = restored F (isLate T p) source (storedLine source) p
 
 -- "The finished line's words become copies with empty board logs"
 abbrev pub processWrites : Form → ℕ → ℕ → ℕ → List Write
@@ -19,8 +24,7 @@ processWrites G n p word =
 
 unfoldable pub processesWrites : Form → Form → Topology → List ℕ → List Write
 processesWrites F G T source =
-    let k : ℕ = storedLine source in
-    concatBelow (T .processes) (λ p. processWrites G k p (restored F source k p))
+    concatBelow (T .processes) (λ p. processWrites G (storedLine source) p (finishedWord F T source p))
 
 -- a whole log, whose count stands in the cell `at`: its bodies, then their count
 abbrev pub bodiesWrites : ℕ → List ℕ → List Write
@@ -38,7 +42,7 @@ unfoldable pub carryWrites : Form → Form → Topology → List ℕ → List Wr
 carryWrites F G T source =
     processesWrites F G T source ++ channelsWrites F G T source ++ commitWrites (storedLine source)
 
--- "Refusals 1 to 6 and 16 apply to the source, then 6 to the target.", which has so many cells
+-- "Refusals 1 to 6 and 16 apply to the source, then 6 to the target.", which has so many cells; and 19, "after 5"
 unfoldable pub carryRefusal : Form → Form → Topology → List ℕ → ℕ → Option ℕ
 carryRefusal F G T source cells =
     orElse (recoverRefusal F T source) (firstRefusal ((ltb cells (storeCells G) gives 6) ∷ []))

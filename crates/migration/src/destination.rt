@@ -2,6 +2,7 @@
 use model::Topology;
 use reading::form;
 use reading::form::Form;
+use rules::late;
 use rules::layout;
 ghost use mathlib.Core.Path.{_≡_};
 ghost use Rattle.model.specs.Write.{writeAll};
@@ -19,7 +20,8 @@ fn processes(topology: Topology, from: Form, source: &[u32], to: Form, target: &
     let mut p: u8 = 0;
     while p < topology.processes {
         let at = form::physical_cell(to, line, p);
-        target[at] = reading::word(from, source, p);
+        let late = late::is_late(topology.late, p);
+        target[at] = reading::word(from, source, p, late);
         target[at + 1] = 0;
         p += 1;
     }

@@ -10,7 +10,8 @@ ghost use Rattle.migration.specs.Carry.{carry};
 ghost use Rattle.migration.specs.Carries.{Carries};
 ghost use Rattle.reading.specs.Source.{formOf};
 
-// The source's line into the target, in its form; or a refusal: 1 to 6 and 16 of the source, then 6 of the target.
+// The source's line into the target, in its form; or a refusal: 1 to 5, 19, 6 and 16 of the source, then 6 of the
+// target.
 fn carry(topology: Topology, from: Form, source: &[u32], to: Form, target: &mut [u32]) -> Verdict
     ensures { λ r. ⌜ Carries (carry (formOf from) (formOf to) topology (now (source .entry)) (now (target .entry)))
         r (now (target .exit)) ⌝ }

@@ -4,13 +4,13 @@ use Prim.Native.Nat.{ℕ}
 use mathlib.Core.Path.{_≡_, refl}
 use mathlib.Core.Bool.{true}
 use mathlib.Core.List.{List, [], _∷_}
-use mathlib.Core.Option.{some, orElse}
+use mathlib.Core.Option.{none, some, orElse}
 use lib.ListN.{length}
 use Rattle.model.specs.declared.Topology.{Topology}
 use Rattle.model.specs.declared.Step.{Step}
 use Rattle.model.specs.declared.Step.the-variants.{Send, Receive, Begin, PhysicalCheckpoint, LogicalCheckpoint}
 use Rattle.model.specs.declared.Step.the-variants.{SendMarker, Commit, Abort}
-use Rattle.model.specs.Topology.{sizeChecks, channelChecks, sizeRefusal, topologyRefusal}
+use Rattle.model.specs.Topology.{sizeChecks, channelChecks, sizeRefusal, channelsRefusal, topologyRefusal}
 use Rattle.model.specs.State.{GlobalState}
 use Rattle.model.specs.Step.{priorChecks, roomChecks, logChecks, ownChecks, stepChecks}
 use Rattle.model.specs.Start.{initializeRefusal, recoverRefusal}
@@ -42,6 +42,11 @@ sizes-first : (T : Topology) (r : ℕ) → sizeRefusal (T .processes) (T .channe
 unfolding topologyRefusal orElse
 sizes-first T r e = rw e refl
 
+channels-first : (T : Topology) (r : ℕ) → sizeRefusal (T .processes) (T .channels) ≡ none → channelsRefusal T ≡ some r
+    → topologyRefusal T ≡ some r
+unfolding topologyRefusal orElse
+channels-first T r e c = rw (e, c) refl
+
 topology-first : (T : Topology) (cells : ℕ) (r : ℕ) → topologyRefusal T ≡ some r
     → initializeRefusal T cells ≡ some r
 unfolding recovery.initializeRefusal orElse
@@ -59,6 +64,7 @@ in-order =
       sizes = sizes-in-order;
       channels = channel-in-order;
       sizesFirst = sizes-first;
+      channelsFirst = channels-first;
       topologyFirst = topology-first;
       initializeFirst = initialize-first;
     }

@@ -15,6 +15,8 @@ pub mod AlwaysFound
 pub mod Reached
 pub mod Trace
 pub mod OrderShows
+pub mod Undone
+pub mod LateBits
 pub mod NextSend
 pub mod FullCurrent
 pub mod PresentNumbers

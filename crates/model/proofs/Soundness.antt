@@ -1,11 +1,11 @@
 -- No call makes a state unsound (the statement is Soundness of specs/Soundness.antt).
 use Prim.Native.Nat.{ℕ, _+_, _<_, _≤_}
 use mathlib.Core.Path.{_≡_, refl, sym, ap, _∙_}
-use mathlib.Core.Bool.{Bool, true, false, cond, not, _||_}
+use mathlib.Core.Bool.{Bool, true, false, not, _||_}
 use mathlib.Core.List.{List, [], _∷_}
-use mathlib.Core.Option.{none}
+use mathlib.Core.Option.{Option, none}
 use lib.ListN.{length, length-append, length-map}
-use lib.Dec.{ltb, leb, eqb}
+use lib.Dec.{leb, eqb}
 use borrow.Author.Tests.{leb-true, leb-false, lt-ltb, eqb-false, not-true, not-false}
 use native.Mathlib.Omega.{arith}
 use Rattle.model.specs.declared.Topology.{Topology}
@@ -17,18 +17,18 @@ use Rattle.model.specs.declared.Step.{Step}
 use Rattle.model.specs.declared.Step.the-variants.{Send, Receive, Begin, PhysicalCheckpoint}
 use Rattle.model.specs.declared.Step.the-variants.{LogicalCheckpoint, SendMarker, Commit, Abort}
 use Rattle.model.specs.Notation.{allBelow}
-use Rattle.model.specs.Topology.{hasProcess, hasChannel, topologyRefusal}
+use Rattle.model.specs.Topology.{hasProcess, hasChannel, isLate, topologyRefusal}
 use Rattle.model.specs.Channel.{roomLeft, messages, noRoomForMessage, noRoomForMarker}
 use Rattle.model.specs.Phase.{isIdle, isNext}
 use Rattle.model.specs.Layout.{present, Log, messageLog, channelLog, places, logged, entriesFrom}
-use Rattle.model.specs.State.{GlobalState, LogCounts, countOf, raised, raisedAll, idleState, noCounts, noProgress}
+use Rattle.model.specs.State.{GlobalState, LogCounts, countOf, raised, raisedAll, idleState, noCounts}
 use Rattle.model.specs.Sound.{ChannelRule, channelSound, channelSoundBy, phaseSound, lineSound, lastLine, sound}
 use Rattle.model.specs.Soundness.{Soundness}
 use Rattle.model.specs.Change.{withRound, withTag, withChannel, withProgress, withCounts, inPhase, setEntries}
-use Rattle.model.specs.Change.{logicalCheckpoint, recordSent, endRound}
+use Rattle.model.specs.Change.{logicalCheckpoint, recordSaved, recordSent, endRound}
 use Rattle.model.specs.Receive.{anyFull}
 use Rattle.model.specs.Step.{roomChecks, logChecks, quietly, reaction, firstReaction, receive}
-use Rattle.model.specs.Step.{physicalFrom, effect, answer}
+use Rattle.model.specs.Step.{physicalAt, physicalFrom, afterPhysical, effect, answer}
 use Rattle.model.specs.Start.{startupOr, initializeRefusal, initialize, storedLine, countsFit}
 use Rattle.model.specs.Start.{recoverRefusal, recoveredWord, recoveredChannel, recover}
 use Rattle.model.specs.Form as form
@@ -38,10 +38,11 @@ use Rattle.model.proofs.laws.Functions.{upd-all, upd-other}
 use Rattle.model.proofs.laws.Lists.{tabulate-length, all-at, or-else-none}
 use Rattle.model.proofs.laws.ChannelLaws.{bodies-length}
 use Rattle.model.proofs.laws.ChannelEffects.{Becomes, stays, message, marker, taken, plain, effect-becomes}
+use Rattle.model.proofs.laws.TopologyLaws.{FirstEarly, at, none-left, first-early}
 use Rattle.model.proofs.laws.ReceiveLaws.{Unlike, Apart, reaction-apart}
 use Rattle.model.proofs.laws.SoundLaws.{Fits, SoundBy, Sound, sound-facts, facts-sound, RoomFits, entries-fit}
 use Rattle.model.proofs.laws.SoundLaws.{fit-sound}
-use Rattle.model.proofs.laws.Passing.{Passed, Prior, passed}
+use Rattle.model.proofs.laws.Passing.{Passed, Turn, early, late, Prior, passed}
 use Rattle.model.proofs.laws.Calls.{Accepted, Answering, unheard, answers, answer-cases}
 use Rattle.model.proofs.laws.Calls.{initialize-refusal, recover-refusal}
 use Rattle.model.proofs.laws.Effects.{effect-topology}
@@ -128,23 +129,22 @@ module _ (rule : ChannelRule) (s : GlobalState) (h : SoundBy rule s) where
         line = h .line;
       })
 
-  -- the physical phase goes on at a process of the topology, or the logical phase starts; not at the last line
+  -- the physical phase goes on at an early process of the topology, or the logical phase starts; not at the last line
   goes-on : (x : GlobalState) (from : ℕ) → x .topology ≡ s .topology → Fits (s .topology) (x .counts)
       → eqb (x .round .line) lastLine ≡ false → After (physicalFrom from x)
-  unfolding physicalFrom inPhase withRound withProgress phaseSound lineSound hasProcess
-  goes-on x from same fits line = go (ltb from (x .topology .processes)) refl
+  unfolding physicalFrom physicalAt inPhase withRound withProgress phaseSound lineSound hasProcess isLate
+  goes-on x from same fits line = go (first-early (x .topology .processes) (x .topology .late) from)
     where
-      go : (t : Bool) → ltb from (x .topology .processes) ≡ t
-          → After (cond t (inPhase (Physical from) x) (inPhase Logical (withProgress noProgress x)))
-      go true n channels =
+      go : {o : Option ℕ} → FirstEarly (x .topology .processes) (x .topology .late) from o → After (physicalAt o x)
+      go (at {p} l _ e _) channels =
           record {
             topology = rw same (h .topology);
             channels = channels;
             logs = rw same fits;
-            phase = n;
+            phase = rw (lt-ltb p (x .topology .processes) l, e);
             line = rw line;
           }
-      go false n channels =
+      go (none-left _) channels =
           record {
             topology = rw same (h .topology);
             channels = channels;
@@ -153,14 +153,19 @@ module _ (rule : ChannelRule) (s : GlobalState) (h : SoundBy rule s) where
             line = rw line;
           }
 
+  after-physical : (p : ℕ) → Turn s p → After (afterPhysical s p)
+  unfolding afterPhysical recordSaved withProgress lineSound
+  after-physical p (early e next) =
+      rw e (goes-on s (p + 1) refl (h .logs) (not-last (s .round .phase) p _ next (h .line)))
+  after-physical p (late e _ _ _) = rw e (as-it-was _ refl refl refl)
+
   pub effect-clauses : (x : Step) → Prior s x → Passed (logChecks s x) → After (effect s x .state)
   unfolding effect quietly setEntries withChannel logicalCheckpoint withTag withProgress withCounts recordSent endRound
       withRound phaseSound lineSound logChecks
   effect-clauses (Send c b) p q = as-it-was _ refl refl refl
   effect-clauses (Receive c) p q = received-by c (s .channel c) (q .0)
   effect-clauses Begin p q = goes-on (withCounts noCounts s) 0 refl (none-counted (s .topology)) (p .line)
-  effect-clauses (PhysicalCheckpoint r) p q =
-      goes-on s (r + 1) refl (h .logs) (not-last (s .round .phase) r _ (p .next) (h .line))
+  effect-clauses (PhysicalCheckpoint r) p q = after-physical r (p .turn)
   effect-clauses (LogicalCheckpoint r) p q = as-it-was _ refl refl refl
   effect-clauses (SendMarker c) p q = as-it-was _ refl refl refl
   effect-clauses Commit p q =

@@ -10,7 +10,7 @@ use Rattle.model.specs.declared.Refusal.{Refusal}
 use Rattle.model.specs.declared.Refusal.the-variants.{ProcessCount, ChannelCount, UnknownEnd, SelfChannel}
 use Rattle.model.specs.declared.Refusal.the-variants.{DoubledChannel, ShortStore, Malformed, NoSuch, ChannelFull}
 use Rattle.model.specs.declared.Refusal.the-variants.{ChannelEmpty, LogFull, NotNow, LastLine, MarkerOnClosed}
-use Rattle.model.specs.declared.Refusal.the-variants.{Unsound, BadCount, NothingRefused, LongList}
+use Rattle.model.specs.declared.Refusal.the-variants.{Unsound, BadCount, NothingRefused, LongList, UnknownLate}
 use Rattle.model.specs.Outcome.{Said, done, sent, took, note, line, refused, cut, refusalNumber, saidBy}
 use Rattle.model.specs.ToldApart.{ToldApart}
 
@@ -19,7 +19,8 @@ abbrev inNumberOrder : List Refusal
 inNumberOrder =
     ProcessCount ∷ ChannelCount ∷ UnknownEnd ∷ SelfChannel ∷ DoubledChannel
     ∷ ShortStore ∷ Malformed ∷ NoSuch ∷ ChannelFull ∷ ChannelEmpty
-    ∷ LogFull ∷ NotNow ∷ LastLine ∷ MarkerOnClosed ∷ Unsound ∷ BadCount ∷ NothingRefused ∷ LongList ∷ []
+    ∷ LogFull ∷ NotNow ∷ LastLine ∷ MarkerOnClosed ∷ Unsound ∷ BadCount ∷ NothingRefused ∷ LongList
+    ∷ UnknownLate ∷ []
 
 abbrev refusalFor : ℕ → Refusal
 refusalFor n = getD inNumberOrder (n - 1) ProcessCount
@@ -43,6 +44,7 @@ refusal-back Unsound = refl
 refusal-back BadCount = refl
 refusal-back NothingRefused = refl
 refusal-back LongList = refl
+refusal-back UnknownLate = refl
 
 abbrev outcomeFor : Said → Outcome
 outcomeFor done = outcome.Done

@@ -2,6 +2,7 @@
 pub mod Tests
 pub mod Functions
 pub mod Lists
+pub mod Bits
 pub mod ChannelLaws
 pub mod Passing
 pub mod Calls

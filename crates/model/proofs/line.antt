@@ -20,6 +20,7 @@ pub mod ReceiveHistory
 pub mod Delivered
 pub mod LogFrames
 pub mod MessageKept
+pub mod MarkedReceives
 pub mod MarkerReceived
 pub mod ReceiveKept
 pub mod StepKept

@@ -3,6 +3,7 @@ pub mod Writes
 pub mod Entries
 pub mod RunningIndex
 pub mod LogReplay
+pub mod LogUndo
 pub mod Sizes
 pub mod Addresses
 pub mod Readable

@@ -4,6 +4,7 @@ use mathlib.Core.Bool.{Bool, false, cond}
 use mathlib.Core.List.{List, [], _∷_, _++_, map}
 use mathlib.Core.Option.{none, some}
 use lib.ListN.{length, take, drop, replicate}
+use Rattle.model.specs.declared.Topology.{Topology}
 use Rattle.model.specs.declared.Entry.{Entry}
 use Rattle.model.specs.declared.Entry.the-variants.{Message, Marker}
 use Rattle.model.specs.declared.Record.{Record}
@@ -11,6 +12,7 @@ use Rattle.model.specs.declared.Record.the-variants as records
 use Rattle.model.specs.declared.Step.{Step}
 use Rattle.model.specs.Notation.{tabulate}
 use Rattle.model.specs.Layout.{storeCells}
+use Rattle.model.specs.State.{GlobalState, idleState}
 use Rattle.model.specs.Write.{Answered}
 use Rattle.model.specs.Step.{answer}
 use Rattle.model.specs.Outcome as says
@@ -18,6 +20,11 @@ use Rattle.model.specs.Record.{Reading, fieldsOf}
 use Rattle.model.specs.Program as program
 use Rattle.model.specs.Run.{World, run, firstWorld}
 use Rattle.model.specs.ProgramsAreRuns.{callOf}
+
+-- a row of the table: what the definitions give, and what the papers say
+pub record Case : Type 0 where
+  pub got : List (List ℕ)
+  pub expected : List (List ℕ)
 
 -- The output's words as numbers: the code of the first letter. So a line of numbers reads as the program prints it, and
 -- no two lines look alike.
@@ -82,29 +89,43 @@ outputNumbers (program.ran lines words channels) =
 unfoldable pub printed : List ℕ → List (List ℕ)
 printed bytes = outputNumbers (program.head bytes)
 
--- what there is after the first n steps that these bytes ask for
+-- the steps that these bytes ask for, and what there is after the first n of them
+unfoldable pub stepsOf : List ℕ → List program.Request
+stepsOf bytes = program.readAll program.full (length bytes) (drop (program.planLength bytes) bytes) .requests
+
 unfoldable pub afterSteps : List ℕ → ℕ → World
 afterSteps bytes n =
     run (program.planOf bytes) (firstWorld (program.planOf bytes) (replicate storeCells 0))
-    (map callOf (take n (program.readAll program.full (length bytes)
-    (drop (program.planLength bytes) bytes) .requests)))
+    (map callOf (take n (stepsOf bytes)))
 
 -- what a step answers there
 unfoldable pub answerIn : World → Step → ℕ → Answered
 answerIn w x budget = answer (w .state) x (w .store) budget
 
+-- a world with another state; and an idle state with the plan of these bytes, whether it is refused or not
+unfoldable pub inState : (GlobalState → GlobalState) → World → World
+inState f w = record { state = f (w .state); store = w .store; history = w .history; commits = w .commits }
+
+unfoldable pub underPlan : List ℕ → GlobalState → GlobalState
+underPlan bytes s = idleState (program.planOf bytes) (s .round .line) (s .word) (s .channel)
+
 -- an answer as line n
 unfoldable pub answerLine : ℕ → Answered → List ℕ
 answerLine n a = lineNumbers (record { number = n; said = a .outcome; made = a .made })
 
--- an answer as line n, and what the program prints if then come a restart and the end
-unfoldable pub thenRecover : ℕ → Answered → List (List ℕ)
-thenRecover n a =
-    answerLine n a
-    ∷ outputNumbers
-    (program.report (a .state .topology)
-    (program.session (a .state .topology) false (n + 1) (a .state) (a .store)
-    (record { content = records.Recover; budget = program.fullBudget } ∷ [])))
+-- a step with this budget, and a restart
+unfoldable pub calling : Step → ℕ → program.Request
+calling x budget = record { content = records.Call x; budget = budget }
+
+unfoldable pub recovering : program.Request
+recovering = record { content = records.Recover; budget = program.fullBudget }
+
+-- what the program prints after the first n steps that these bytes ask for, if these requests come then
+unfoldable pub thenServes : List ℕ → ℕ → List program.Request → List (List ℕ)
+thenServes bytes n requests =
+    let w : World = afterSteps bytes n in
+    let T : Topology = program.planOf bytes in
+    outputNumbers (program.report T (program.session T false (n + 1) (w .state) (w .store) requests))
 
 -- "a tag, 0 or 1"
 unfoldable pub tagNumber : Bool → ℕ

@@ -1,7 +1,8 @@
 -- Document 01, "Cases": those with a star, as one table, with the words that document 02, M-101, gives for them and its
--- own case, and with what M-104 makes of a send's lines. Each row has what the definitions give and what the papers
--- say, as lines of numbers. The theorem is proofs/Cases.antt.
-use Prim.Native.Nat.{ℕ, _+_}
+-- own case, with what M-104 makes of a send's lines, with M-105's map in each plan, and with M-105's cases (LateCases).
+-- Each row has what the definitions give and what the papers say, as lines of numbers. The theorem stands in
+-- proofs/Cases.antt.
+use Prim.Native.Nat.{_+_}
 use mathlib.Core.Path.{_≡_}
 use mathlib.Core.List.{List, [], _∷_, _++_, map}
 use Rattle.model.specs.declared.Step.the-variants.{Begin, Commit, Abort}
@@ -9,51 +10,12 @@ use Rattle.model.specs.Notation.{concatBelow}
 use Rattle.model.specs.Word.{receipt, enter, replay}
 use Rattle.model.specs.Record.{readRecord}
 use Rattle.model.specs.Program as program
+use Rattle.model.specs.CaseInputs.{input, oneProcess, neighbours}
+use Rattle.model.specs.CaseLines.{Case}
 use Rattle.model.specs.CaseLines.{done, sent, took, note, line, refused, board, wire, powerLost, message, printed}
-use Rattle.model.specs.CaseLines.{afterSteps, answerIn, answerLine, thenRecover, thenTags, readingNumbers}
-
--- "Input (hexadecimal)"
-unfoldable pub input : List ℕ
-input =
-    0x02 ∷ 0x02 ∷ 0x00 ∷ 0x01 ∷ 0x01 ∷ 0x00
-    ∷ 0x01 ∷ 0x03
-    ∷ 0x01 ∷ 0x04
-    ∷ 0x03 ∷ 0x04 ∷ 0x01
-    ∷ 0x0D ∷ 0x01 ∷ 0x01 ∷ 0x05 ∷ 0x00 ∷ 0x00 ∷ 0x00
-    ∷ 0x01 ∷ 0x05
-    ∷ 0x09 ∷ 0x01 ∷ 0x07 ∷ 0x00 ∷ 0x00 ∷ 0x00
-    ∷ 0x01 ∷ 0x02
-    ∷ 0x05 ∷ 0x02 ∷ 0x01
-    ∷ 0x01 ∷ 0x06
-    ∷ 0x05 ∷ 0x06 ∷ 0x01
-    ∷ 0x01 ∷ 0x02
-    ∷ 0x05 ∷ 0x02 ∷ 0x01
-    ∷ 0x01 ∷ 0x07
-    ∷ 0x01 ∷ 0x09
-    ∷ []
-
--- one board, no wire: begin, copy, mark, finish, restart
-unfoldable pub oneProcess : List ℕ
-oneProcess =
-    0x01 ∷ 0x00
-    ∷ 0x01 ∷ 0x03
-    ∷ 0x01 ∷ 0x04
-    ∷ 0x01 ∷ 0x05
-    ∷ 0x01 ∷ 0x07
-    ∷ 0x01 ∷ 0x09
-    ∷ []
-
--- boards 1 and 2 send 5 to board 0, on wires 0 and 1
-unfoldable pub neighbours : List ℕ
-neighbours =
-    0x03 ∷ 0x02 ∷ 0x01 ∷ 0x00 ∷ 0x02 ∷ 0x00
-    ∷ 0x09 ∷ 0x01 ∷ 0x05 ∷ 0x00 ∷ 0x00 ∷ 0x00
-    ∷ 0x0D ∷ 0x01 ∷ 0x01 ∷ 0x05 ∷ 0x00 ∷ 0x00 ∷ 0x00
-    ∷ []
-
-pub record Case : Type 0 where
-  pub got : List (List ℕ)
-  pub expected : List (List ℕ)
+use Rattle.model.specs.CaseLines.{afterSteps, answerIn, answerLine, calling}
+use Rattle.model.specs.CaseLines.{recovering, thenServes, thenTags, readingNumbers}
+use Rattle.model.specs.LateCases.{lateCases}
 
 unfoldable pub starred : List Case
 starred =
@@ -96,7 +58,10 @@ starred =
     }
     -- "The 8th entry is accepted, a 9th send is 9."
     ∷ record {
-      got = printed (0x02 ∷ 0x01 ∷ 0x00 ∷ 0x01 ∷ concatBelow 9 (λ i. 0x09 ∷ 0x01 ∷ (i + 1) ∷ 0x00 ∷ 0x00 ∷ 0x00 ∷ []));
+      got =
+          printed
+          (0x02 ∷ 0x01 ∷ 0x00 ∷ 0x01 ∷ 0x00 ∷ 0x00
+          ∷ concatBelow 9 (λ i. 0x09 ∷ 0x01 ∷ (i + 1) ∷ 0x00 ∷ 0x00 ∷ 0x00 ∷ []));
       expected =
           (1 ∷ sent ∷ 7 ∷ 0 ∷ [])
           ∷ (2 ∷ sent ∷ 6 ∷ 0 ∷ [])
@@ -114,14 +79,14 @@ starred =
     }
     -- "Take on an empty wire: 10."
     ∷ record {
-      got = printed (0x02 ∷ 0x01 ∷ 0x00 ∷ 0x01 ∷ 0x01 ∷ 0x02 ∷ []);
+      got = printed (0x02 ∷ 0x01 ∷ 0x00 ∷ 0x01 ∷ 0x00 ∷ 0x00 ∷ 0x01 ∷ 0x02 ∷ []);
       expected = (1 ∷ refused ∷ 10 ∷ 0 ∷ []) ∷ (board ∷ 0 ∷ 0 ∷ []) ∷ (board ∷ 1 ∷ 0 ∷ []) ∷ (wire ∷ 0 ∷ 0 ∷ []) ∷ [];
     }
     -- "Finish with 0 stores of current: cut, restart gives the old line. With 1: the new."
     ∷ record {
       got =
-          thenRecover 13 (answerIn (afterSteps input 12) Commit 0) ++ thenRecover 13
-          (answerIn (afterSteps input 12) Commit 1);
+          thenServes input 12 (calling Commit 0 ∷ recovering ∷ [])
+          ++ thenServes input 12 (calling Commit 1 ∷ recovering ∷ []);
       expected =
           (13 ∷ powerLost ∷ 0 ∷ [])
           ∷ (14 ∷ line ∷ 0 ∷ 0 ∷ [])
@@ -200,7 +165,7 @@ starred =
           ∷ (wire ∷ 1 ∷ message ∷ 5 ∷ 0 ∷ [])
           ∷ [];
     }
-    ∷ []
+    ∷ lateCases
 
 -- each row gets what the papers expect, as one fact over the table
 abbrev pub StarredHold : Type 0

@@ -88,13 +88,16 @@ withCounts x s =
 
 -- a round's progress with one part exchanged
 unfoldable pub withLogical : (ℕ → Bool) → Progress → Progress
-withLogical x p = record { logical = x; closed = p .closed; sent = p .sent }
+withLogical x p = record { logical = x; saved = p .saved; closed = p .closed; sent = p .sent }
+
+unfoldable pub withSaved : (ℕ → Bool) → Progress → Progress
+withSaved x p = record { logical = p .logical; saved = x; closed = p .closed; sent = p .sent }
 
 unfoldable pub withClosed : (ℕ → Bool) → Progress → Progress
-withClosed x p = record { logical = p .logical; closed = x; sent = p .sent }
+withClosed x p = record { logical = p .logical; saved = p .saved; closed = x; sent = p .sent }
 
 unfoldable pub withSent : (ℕ → Bool) → Progress → Progress
-withSent x p = record { logical = p .logical; closed = p .closed; sent = x }
+withSent x p = record { logical = p .logical; saved = p .saved; closed = p .closed; sent = x }
 
 -- the round goes on in another phase
 unfoldable pub inPhase : Phase → GlobalState → GlobalState
@@ -114,6 +117,10 @@ logicalCheckpoint p s =
     withTag (upd (s .tag) p (not (s .tag p)))
     (withProgress (withLogical (upd (s .progress .logical) p true) (s .progress)) s)
 
+-- a late process has its physical checkpoint (copy)
+unfoldable pub recordSaved : ℕ → GlobalState → GlobalState
+recordSaved p s = withProgress (withSaved (upd (s .progress .saved) p true) (s .progress)) s
+
 unfoldable pub close : ℕ → GlobalState → GlobalState
 close c s = withProgress (withClosed (upd (s .progress .closed) c true) (s .progress)) s
 
@@ -124,6 +131,6 @@ recordSent c s = withProgress (withSent (upd (s .progress .sent) c true) (s .pro
 unfoldable pub plainChannels : GlobalState → ℕ → List Entry
 plainChannels s c = cond (hasChannel (s .topology) c) (messages false (bodies (s .channel c))) (s .channel c)
 
--- the round is over: idle at this line, "no board marked, no wire closed and no note put"
+-- the round is over: idle at this line, "no board marked, no wire closed and no note put", no late board copied
 unfoldable pub endRound : ℕ → GlobalState → GlobalState
 endRound line s = withRound (record { line = line; phase = Idle }) (withProgress noProgress s)

@@ -1,4 +1,5 @@
--- Demand 3: what a recover after a list of calls gives. The theorem is proofs/Demand3.antt.
+-- Demand 3: what a recover after a list of calls gives. The theorem is proofs/Demand3.antt, of any topology: document
+-- 02, M-105, "Demand 3 holds, as it stands, for plans with late boards."
 use Prim.Native.Nat.{ℕ, _<_}
 use mathlib.Core.Path.{_≡_}
 use mathlib.Core.Bool.{true}

@@ -1,17 +1,22 @@
 -- Document 01, "The store": where each thing stands, in a store of any form. The forms differ in what an entry of a
 -- message log (board log) is; the sizes that follow from it are worked out here.
 use Prim.Native.Nat.{ℕ, zero, suc, _+_, _*_, _%_}
+use mathlib.Core.Bool.{Bool, cond}
 use mathlib.Core.List.{List, [], _∷_, map}
+use mathlib.Core.Option.{Option, none, some}
 use lib.ListN.{getD}
 use Rattle.model.specs.declared.Receipt.{Receipt}
 use Rattle.model.specs.Notation.{tabulate}
-use Rattle.model.specs.Word.{receipt}
+use Rattle.model.specs.Word.{receipt, replayBy, undoBy}
 use Rattle.model.specs.Topology.{processLimit, channelLimit}
 
--- A form of the store: how many cells an entry of a message log has, and what the receipt in it makes of a word.
+-- A form of the store: how many cells an entry of a message log has, what the receipt in it makes of a word, and, if
+-- the logs of late processes hold anti-messages, what one of these makes of a word. (Document 02, M-105: "M-102's old
+-- form holds none: its logs are replayed as before.")
 pub record Form : Type 0 where
   pub messageCells : ℕ
   pub enter : ℕ → Receipt → ℕ
+  pub leave : Option (ℕ → Receipt → ℕ)
 
 -- what a cell holds
 unfoldable pub cell : List ℕ → ℕ → ℕ
@@ -67,10 +72,20 @@ receiptIn entry = receipt (getD entry 1 0) (getD entry 0 0)
 abbrev pub bodyIn : List ℕ → ℕ
 bodyIn entry = getD entry 0 0
 
+-- "words by replaying board logs on copies"; where there is a rule for leaving, document 02, M-105: "Restart undoes
+-- these in reverse order on the copy"
+unfoldable pub restoreBy : Option (ℕ → Receipt → ℕ) → (ℕ → Receipt → ℕ) → ℕ → List Receipt → ℕ
+restoreBy none enter word rs = replayBy enter word rs
+restoreBy (some leave) enter word rs = undoBy leave word rs
+
 module _ (F : Form) where
   abbrev pub entryCells : Log → ℕ
   entryCells (messageLog p) = F .messageCells
   entryCells (channelLog c) = channelEntryCells
+
+  -- what a message log makes of the physical checkpoint (copy) of its process, which is late or not
+  unfoldable pub restore : Bool → ℕ → List Receipt → ℕ
+  restore late word rs = restoreBy (cond late (F .leave) none) (F .enter) word rs
 
   -- a board's record: "copy, log count," and 64 entries
   abbrev pub processCells : ℕ

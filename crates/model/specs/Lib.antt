@@ -4,7 +4,9 @@ pub mod Notation
 pub mod Outcome
 pub mod Check
 pub mod Word
+pub mod Undone
 pub mod Topology
+pub mod LateBits
 pub mod Channel
 pub mod Phase
 pub mod Form
@@ -34,6 +36,8 @@ pub mod Untouched
 pub mod InOrder
 pub mod ToldApart
 pub mod CaseLines
+pub mod CaseInputs
+pub mod LateCases
 pub mod Cases
 pub mod CallList
 pub mod Reduction

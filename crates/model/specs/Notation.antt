@@ -1,6 +1,7 @@
 -- Notation that the definitions share, of functions, lists and tests alone: a function changed at one index, a list
--- from a function, a test of every number below a bound, and the first of several things that is there.
-use Prim.Native.Nat.{ℕ, zero, suc}
+-- from a function, a test of every number below a bound, the first of several things that is there, and the bits of a
+-- number.
+use Prim.Native.Nat.{ℕ, zero, suc, _/_, _%_, _^_}
 use mathlib.Core.Bool.{Bool, true, cond, _&&_}
 use mathlib.Core.List.{List, [], _∷_, _++_}
 use mathlib.Core.Option.{Option, none, orElse}
@@ -25,6 +26,10 @@ module _ {ℓ} {A : Type ℓ} where
   unfoldable pub firstBelow : ℕ → (ℕ → Option A) → Option A
   firstBelow zero f = none
   firstBelow (suc n) f = orElse (firstBelow n f) (f n)
+
+-- whether bit i of n stands, the lowest being bit 0
+unfoldable pub bitOf : ℕ → ℕ → Bool
+bitOf n i = eqb (n / 2 ^ i % 2) 1
 
 -- whether f holds of every number below n
 unfoldable pub allBelow : ℕ → (ℕ → Bool) → Bool

@@ -13,7 +13,7 @@ use Rattle.model.specs.declared.Refusal.{Refusal}
 use Rattle.model.specs.declared.Refusal.the-variants.{ProcessCount, ChannelCount, UnknownEnd, SelfChannel}
 use Rattle.model.specs.declared.Refusal.the-variants.{DoubledChannel, ShortStore, Malformed, NoSuch, ChannelFull}
 use Rattle.model.specs.declared.Refusal.the-variants.{ChannelEmpty, LogFull, NotNow, LastLine, MarkerOnClosed}
-use Rattle.model.specs.declared.Refusal.the-variants.{Unsound, BadCount, NothingRefused, LongList}
+use Rattle.model.specs.declared.Refusal.the-variants.{Unsound, BadCount, NothingRefused, LongList, UnknownLate}
 
 -- "Outcomes: `done`; `took` and body; `note`; `line` and its number for a restart; `refused` and number", and "cut";
 -- document 02, M-104: "`sent`, that count"
@@ -57,6 +57,8 @@ refusalNumber BadCount = 16
 -- document 02, M-100: "18, the list is longer than 256", "17, no step is refused"
 refusalNumber NothingRefused = 17
 refusalNumber LongList = 18
+-- M-105: "19, a late bit for a board not in the plan"
+refusalNumber UnknownLate = 19
 
 -- what a step's outcome says
 abbrev pub saidBy : Outcome → Said

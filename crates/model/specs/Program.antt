@@ -29,6 +29,14 @@ inputBytes = 65536
 unfoldable pub endByte : List ℕ → ℕ → ℕ → ℕ
 endByte bytes at c = cond (ltb c (getD bytes 1 0)) (getD bytes (at + 2 * c) 0) 0
 
+-- document 02, M-105: "A plan gains a 16-bit map, after its wires, two bytes, lowest first, of late boards.": where it
+-- stands, and the map
+unfoldable pub mapStart : List ℕ → ℕ
+mapStart bytes = 2 + 2 * getD bytes 1 0
+
+unfoldable pub lateMap : List ℕ → ℕ
+lateMap bytes = getD bytes (mapStart bytes) 0 + 256 * getD bytes (mapStart bytes + 1) 0
+
 unfoldable pub planOf : List ℕ → Topology
 planOf bytes =
     record {
@@ -36,19 +44,21 @@ planOf bytes =
       channels = getD bytes 1 0;
       from = tabulate channelLimit (endByte bytes 2);
       to = tabulate channelLimit (endByte bytes 3);
+      late = lateMap bytes;
     }
 
 unfoldable pub planLength : List ℕ → ℕ
-planLength bytes = 2 + 2 * getD bytes 1 0
+planLength bytes = mapStart bytes + 2
 
--- "The plan's checks run: under two bytes 7; 1; 2; wires broken off 7;": what its sizes tell
+-- "The plan's checks run: under two bytes 7; 1; 2; wires broken off 7;": what its sizes tell; document 02, M-105: "A
+-- map broken off is 7, before 3."
 unfoldable pub shapeRefusal : List ℕ → Option ℕ
 shapeRefusal bytes =
     orElse (firstRefusal ((ltb (length bytes) 2 gives 7) ∷ []))
     (orElse (sizeRefusal (getD bytes 0 0) (getD bytes 1 0))
     (firstRefusal ((ltb (length bytes) (planLength bytes) gives 7) ∷ [])))
 
--- then "3 to 5", for which the topology's checks stand
+-- then "3 to 5", and 19, for which the topology's checks stand
 unfoldable pub planRefusal : List ℕ → Option ℕ
 planRefusal bytes = orElse (shapeRefusal bytes) (topologyRefusal (planOf bytes))
 

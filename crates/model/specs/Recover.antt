@@ -1,5 +1,6 @@
 -- Document 01's restart (recover), by the rules of a form of the store: what turns it down, and the state that it
--- answers. What setup (initialize) has in common with it is here too. "Setup and restart: 1 to 6, then 16."
+-- answers. What setup (initialize) has in common with it is here too. "Setup and restart: 1 to 6, then 16.";
+-- document 02, M-105, has 19 "after 5".
 use Prim.Native.Nat.{ℕ}
 use mathlib.Core.Bool.{Bool, false, cond, not, _&&_}
 use mathlib.Core.List.{List, [], _∷_}
@@ -10,11 +11,10 @@ use Rattle.model.specs.declared.Topology.{Topology}
 use Rattle.model.specs.declared.Entry.{Entry}
 use Rattle.model.specs.Notation.{allBelow}
 use Rattle.model.specs.Check.{_gives_, firstRefusal}
-use Rattle.model.specs.Word.{replayBy}
-use Rattle.model.specs.Topology.{topologyRefusal, hasProcess, hasChannel}
+use Rattle.model.specs.Topology.{topologyRefusal, hasProcess, hasChannel, isLate}
 use Rattle.model.specs.Channel.{messages}
 use Rattle.model.specs.Form.{Form, cell, lineCell, Log, messageLog, channelLog, places, storeCells, physicalCell}
-use Rattle.model.specs.Form.{countCell, receiptsBy, logged}
+use Rattle.model.specs.Form.{countCell, receiptsBy, restore, logged}
 use Rattle.model.specs.State.{GlobalState, idleState, blankState}
 
 -- what initialize and recover answer, with the number that they are refused with, if they are, and what they leave in
@@ -33,7 +33,7 @@ unfoldable pub storedLine : List ℕ → ℕ
 storedLine store = cell store lineCell
 
 module _ (F : Form) where
-  -- 1 to 5, then "6 store under [the form's] cells."
+  -- 1 to 5 and 19, then "6 store under [the form's] cells."
   unfoldable pub initializeRefusal : Topology → ℕ → Option ℕ
   initializeRefusal T cells = orElse (topologyRefusal T) (firstRefusal ((ltb cells (storeCells F) gives 6) ∷ []))
 
@@ -51,17 +51,15 @@ module _ (F : Form) where
   recoverRefusal T store =
       orElse (initializeRefusal T (length store)) (firstRefusal ((not (countsFit T store) gives 16) ∷ []))
 
-  -- what the slot for line n makes of process p, with the first k entries of its message log: "words by replaying board
-  -- logs on copies"
-  unfoldable pub restoredBy : List ℕ → ℕ → ℕ → ℕ → ℕ
-  restoredBy store n p k = replayBy (F .enter) (cell store (physicalCell F n p)) (receiptsBy F store n p k)
-
-  -- with as many as its count in the store says
-  unfoldable pub restored : List ℕ → ℕ → ℕ → ℕ
-  restored store n p = restoredBy store n p (cell store (countCell F n (messageLog p)))
+  -- what the slot for line n makes of process p, which is late or not, with as many entries of its message log as its
+  -- count in the store says: "words by replaying board logs on copies", or undoing those of late boards
+  unfoldable pub restored : Bool → List ℕ → ℕ → ℕ → ℕ
+  restored late store n p =
+      restore F late (cell store (physicalCell F n p))
+      (receiptsBy F store n p (cell store (countCell F n (messageLog p))))
 
   unfoldable pub recoveredWord : Topology → List ℕ → ℕ → ℕ
-  recoveredWord T store p = cond (hasProcess T p) (restored store (storedLine store) p) 0
+  recoveredWord T store p = cond (hasProcess T p) (restored (isLate T p) store (storedLine store) p) 0
 
   -- "wires filled from wire logs", "tags 0 on boards and messages"
   unfoldable pub recoveredChannel : Topology → List ℕ → ℕ → List Entry

@@ -44,7 +44,7 @@ pub data Sought : Type 0 where
   refuses : ℕ → Sought
   finds : Failure → Sought
 
--- "18, the list is longer than 256, looked at first; then 1 to 5"
+-- "18, the list is longer than 256, looked at first; then 1 to 5", and 19, which M-105 puts after 5
 unfoldable pub listRefusal : Topology → List Record → Option ℕ
 listRefusal T calls = orElse (firstRefusal ((ltb listLimit (length calls) gives 18) ∷ [])) (topologyRefusal T)
 

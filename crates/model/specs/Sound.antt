@@ -1,8 +1,9 @@
 -- Refusal 15, document 01: "state unsound: its plan meets 1 to 5, a planned wire has over 8 entries, the log of a
 -- planned board or wire is over its places, the next board to copy isn't in the plan, or the round isn't idle at k =
--- 4,294,967,295." A clause for each, which says that it is not so.
+-- 4,294,967,295." Document 02, M-105: 19 "in a state it is 15, and so is a late board as the next to copy." A clause
+-- for each, which says that it is not so.
 use Prim.Native.Nat.{ℕ}
-use mathlib.Core.Bool.{Bool, true, not, _||_}
+use mathlib.Core.Bool.{Bool, true, not, _&&_, _||_}
 use mathlib.Core.List.{List, [], _∷_}
 use lib.Dec.{leb, eqb}
 use Rattle.model.specs.declared.Phase.{Phase}
@@ -12,7 +13,7 @@ use Rattle.model.specs.declared.Topology.{Topology}
 use Rattle.model.specs.declared.Entry.{Entry}
 use Rattle.model.specs.Notation.{allBelow, allTrue}
 use Rattle.model.specs.Check.{accepts}
-use Rattle.model.specs.Topology.{topologyRefusal, hasProcess}
+use Rattle.model.specs.Topology.{topologyRefusal, hasProcess, isLate}
 use Rattle.model.specs.Channel.{channelRoom, occupied}
 use Rattle.model.specs.Phase.{isIdle}
 use Rattle.model.specs.Layout.{Log, messageLog, channelLog, places}
@@ -22,7 +23,7 @@ use Rattle.model.specs.State.{GlobalState, LogCounts, countOf}
 abbrev pub lastLine : ℕ
 lastLine = 4294967295
 
--- "its plan meets 1 to 5"
+-- "its plan meets 1 to 5", or 19
 unfoldable pub topologySound : Topology → Bool
 topologySound T = accepts (topologyRefusal T)
 
@@ -39,10 +40,10 @@ channelSound T phase sent closed c es = leb (occupied es) channelRoom
 unfoldable pub logSound : LogCounts → Log → Bool
 logSound counts log = leb (countOf counts log) (places log)
 
--- "the next board to copy isn't in the plan"
+-- "the next board to copy isn't in the plan", or is late
 unfoldable pub phaseSound : Topology → Phase → Bool
 phaseSound T Idle = true
-phaseSound T (Physical next) = hasProcess T next
+phaseSound T (Physical next) = hasProcess T next && not (isLate T next)
 phaseSound T Logical = true
 
 -- "the round isn't idle at k = 4,294,967,295"

@@ -15,7 +15,7 @@ use Rattle.model.specs.Recover as recovery
 pub use Rattle.model.specs.Recover.{Startup}
 unfoldable pub use Rattle.model.specs.Recover.{startupOr, storedLine}
 
--- 1 to 5, then "6 store under [5,313] cells."
+-- 1 to 5 and 19, then "6 store under [5,313] cells."
 abbrev pub initializeRefusal : Topology → ℕ → Option ℕ
 initializeRefusal T cells = recovery.initializeRefusal present T cells
 
@@ -47,11 +47,8 @@ countFits store n log = recovery.countFits present store n log
 abbrev pub countsFit : Topology → List ℕ → Bool
 countsFit T store = recovery.countsFit present T store
 
-abbrev pub restoredBy : List ℕ → ℕ → ℕ → ℕ → ℕ
-restoredBy store n p k = recovery.restoredBy present store n p k
-
-abbrev pub restored : List ℕ → ℕ → ℕ → ℕ
-restored store n p = recovery.restored present store n p
+abbrev pub restored : Bool → List ℕ → ℕ → ℕ → ℕ
+restored late store n p = recovery.restored present late store n p
 
 abbrev pub recoveredWord : Topology → List ℕ → ℕ → ℕ
 recoveredWord T store p = recovery.recoveredWord present T store p

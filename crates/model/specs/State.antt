@@ -17,10 +17,12 @@ use Rattle.model.specs.Topology.{channelLimit}
 use Rattle.model.specs.Channel.{arrayPlaces, held, entries}
 use Rattle.model.specs.Layout.{Log, messageLog, channelLog}
 
--- what the round under way has done: processes that have their logical checkpoint (marked boards), closed wires, wires
--- with their note put
+-- what the round under way has done: processes that have their logical checkpoint (marked boards), late processes that
+-- have their physical checkpoint too (M-105: "It may copy once marked, one time in a round"), closed wires, wires with
+-- their note put
 pub record Progress : Type 0 where
   pub logical : ℕ → Bool
+  pub saved : ℕ → Bool
   pub closed : ℕ → Bool
   pub sent : ℕ → Bool
 
@@ -39,9 +41,10 @@ pub record GlobalState : Type 0 where
   pub progress : Progress
   pub counts : LogCounts
 
--- "no board marked, no wire closed and no note put"
+-- "no board marked, no wire closed and no note put"; and no late board copied, as "one time in a round" is counted anew
+-- in the next one
 unfoldable pub noProgress : Progress
-noProgress = record { logical = λ p. false; closed = λ c. false; sent = λ c. false }
+noProgress = record { logical = λ p. false; saved = λ p. false; closed = λ c. false; sent = λ c. false }
 
 unfoldable pub noCounts : LogCounts
 noCounts = record { messages = λ p. 0; channels = λ c. 0 }
@@ -78,7 +81,14 @@ idleState T k word channel =
 
 -- no topology: no process, no channel
 unfoldable pub blankTopology : Topology
-blankTopology = record { processes = 0; channels = 0; from = replicate channelLimit 0; to = replicate channelLimit 0 }
+blankTopology =
+    record {
+      processes = 0;
+      channels = 0;
+      from = replicate channelLimit 0;
+      to = replicate channelLimit 0;
+      late = 0;
+    }
 
 -- what a refused setup or restart puts in the state's place
 unfoldable pub blankState : GlobalState
@@ -88,6 +98,7 @@ unfoldable pub viewProgress : Flags → Progress
 viewProgress f =
     record {
       logical = λ p. getD (f .logical) p false;
+      saved = λ p. getD (f .saved) p false;
       closed = λ c. getD (f .closed) c false;
       sent = λ c. getD (f .sent) c false;
     }

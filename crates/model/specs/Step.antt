@@ -14,17 +14,26 @@ use Rattle.model.specs.declared.Step.the-variants.{LogicalCheckpoint, Se
 use Rattle.model.specs.Notation.{allBelow}
 use Rattle.model.specs.Outcome.{Said, done, sent, took, note, refused}
 use Rattle.model.specs.Check.{Check, _gives_, firstRefusal}
-use Rattle.model.specs.Topology.{sender, receiver, hasProcess, hasChannel}
+use Rattle.model.specs.Topology.{sender, receiver, hasProcess, hasChannel, isLate, firstEarly}
 use Rattle.model.specs.Channel.{roomLeft, noRoomForMessage, noRoomForMarker, noEntry, receiptOf}
 use Rattle.model.specs.Phase.{isIdle, isLogical, isNext}
 use Rattle.model.specs.Layout.{storeCells}
 use Rattle.model.specs.State.{GlobalState, noCounts, noProgress, raisedAll}
 use Rattle.model.specs.Sound.{sound, lastLine}
 use Rattle.model.specs.Change.{withTag, withChannel, withProgress, withCounts, inPhase, setEntries}
-use Rattle.model.specs.Change.{enterMessage, logicalCheckpoint, close, recordSent, plainChannels, endRound}
+use Rattle.model.specs.Change.{enterMessage, logicalCheckpoint, close, recordSaved, recordSent, plainChannels}
+use Rattle.model.specs.Change.{endRound}
 use Rattle.model.specs.Receive.{Reaction, logsOnly, reactionTo, receiverAt, anyFull}
 use Rattle.model.specs.Write.{Result, Answered, underBudget, clearWrites, physicalWrites, logsWrites}
 use Rattle.model.specs.Write.{commitWrites}
+
+-- "in copying, boards in rising order"; document 02, M-105, of a late board: "It may copy once marked, one time in a
+-- round", so in marking; "Copies of late boards obey 12 as written here."
+unfoldable pub mayCheckpointPhysically : GlobalState → ℕ → Bool
+mayCheckpointPhysically s p =
+    cond (isLate (s .topology) p)
+    (isLogical (s .round .phase) && s .progress .logical p && not (s .progress .saved p))
+    (isNext (s .round .phase) p)
 
 -- "in marking, not yet marked, and board 0 before the rest"
 unfoldable pub mayCheckpointLogically : GlobalState → ℕ → Bool
@@ -36,11 +45,16 @@ unfoldable pub maySendMarker : GlobalState → ℕ → Bool
 maySendMarker s c =
     isLogical (s .round .phase) && s .progress .logical (sender (s .topology) c) && not (s .progress .sent c)
 
--- "in marking, every board marked, every wire closed"
+-- whether process p has its physical checkpoint, in the logical phase: an early one had it before
+unfoldable pub hasPhysical : GlobalState → ℕ → Bool
+hasPhysical s p = not (isLate (s .topology) p) || s .progress .saved p
+
+-- "in marking, every board marked, every wire closed"; document 02, M-105, of a late board's copy: "finish waits for
+-- it"
 unfoldable pub mayCommit : GlobalState → Bool
 mayCommit s =
     isLogical (s .round .phase)
-    && allBelow (s .topology .processes) (s .progress .logical)
+    && allBelow (s .topology .processes) (λ p. s .progress .logical p && hasPhysical s p)
     && allBelow (s .topology .channels) (s .progress .closed)
 
 -- what an entry of channel c does to its receiver, as the state stands
@@ -69,7 +83,7 @@ priorChecks s (Receive c) =
 priorChecks s Begin =
     (not (isIdle (s .round .phase)) gives 12) ∷ (eqb (s .round .line) lastLine gives 13) ∷ []
 priorChecks s (PhysicalCheckpoint p) =
-    (not (hasProcess (s .topology) p) gives 8) ∷ (not (isNext (s .round .phase) p) gives 12) ∷ []
+    (not (hasProcess (s .topology) p) gives 8) ∷ (not (mayCheckpointPhysically s p) gives 12) ∷ []
 priorChecks s (LogicalCheckpoint p) =
     (not (hasProcess (s .topology) p) gives 8) ∷ (not (mayCheckpointLogically s p) gives 12) ∷ []
 priorChecks s (SendMarker c) =
@@ -120,8 +134,8 @@ quietly outcome s = record { outcome = outcome; state = s; writes = [] }
 unfoldable pub react : Reaction → ℕ → ℕ → GlobalState → GlobalState
 react x c r s =
     let counted : GlobalState = withCounts (raisedAll (x .logs) (s .counts)) s in
-    let saved : GlobalState = cond (x .logicalFirst) (logicalCheckpoint r counted) counted in
-    cond (x .closes) (close c saved) saved
+    let logical : GlobalState = cond (x .logicalFirst) (logicalCheckpoint r counted) counted in
+    cond (x .closes) (close c logical) logical
 
 unfoldable pub receivedOutcome : Entry → Said
 receivedOutcome (Message b t) = took b
@@ -139,13 +153,20 @@ receive s c (e ∷ es) =
       writes = logsWrites (nextLine s) (s .counts) (x .logs) (receiptOf c e);
     }
 
--- "boards in rising order": the physical phase, with this process as the next one. Where there is none such, "The last
--- copy starts marking, with no board marked, no wire closed and no note put."
+-- the physical phase, with this process as the next one. Where there is none, "The last copy starts marking, with no
+-- board marked, no wire closed and no note put."
+unfoldable pub physicalAt : Option ℕ → GlobalState → GlobalState
+physicalAt (some p) s = inPhase (Physical p) s
+physicalAt none s = inPhase Logical (withProgress noProgress s)
+
+-- "boards in rising order": the first one from here on that isn't late; document 02, M-105: "A late board is passed
+-- over in copying; if all are late, begin starts marking as the last copy does."
 unfoldable pub physicalFrom : ℕ → GlobalState → GlobalState
-physicalFrom from s =
-    cond (ltb from (s .topology .processes))
-    (inPhase (Physical from) s)
-    (inPhase Logical (withProgress noProgress s))
+physicalFrom from s = physicalAt (firstEarly (s .topology .processes) (s .topology .late) from) s
+
+-- what p's physical checkpoint makes of the state: where p is late, no more than that it has one
+unfoldable pub afterPhysical : GlobalState → ℕ → GlobalState
+afterPhysical s p = cond (isLate (s .topology) p) (recordSaved p s) (physicalFrom (p + 1) s)
 
 -- What an accepted step does.
 unfoldable pub effect : GlobalState → Step → Result
@@ -155,7 +176,8 @@ effect s (Send c b) =
     let after : List Entry = s .channel c ++ (Message b (s .tag (sender (s .topology) c)) ∷ []) in
     quietly (sent (roomLeft after)) (setEntries c after s)
 effect s (Receive c) = receive s c (s .channel c)
--- "Copying starts at board 0, for line k + 1"; "setup, restart and begin make [every log's count] 0"
+-- "Copying starts at board 0, for line k + 1", or at the first one that isn't late; "setup, restart and begin make
+-- [every log's count] 0"
 effect s Begin =
     record {
       outcome = done;
@@ -163,7 +185,7 @@ effect s Begin =
       writes = clearWrites (s .topology) (nextLine s);
     }
 effect s (PhysicalCheckpoint p) =
-    record { outcome = done; state = physicalFrom (p + 1) s; writes = physicalWrites (nextLine s) p (s .word p) }
+    record { outcome = done; state = afterPhysical s p; writes = physicalWrites (nextLine s) p (s .word p) }
 effect s (LogicalCheckpoint p) = quietly done (logicalCheckpoint p s)
 effect s (SendMarker c) = quietly done (recordSent c (setEntries c (s .channel c ++ (Marker ∷ [])) s))
 -- "The state becomes idle with line k + 1."

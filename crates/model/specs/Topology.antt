@@ -1,12 +1,12 @@
--- Document 01's plan, and "The plan's author": refusals 1 to 5.
-use Prim.Native.Nat.{ℕ}
-use mathlib.Core.Bool.{Bool, not, _&&_}
+-- Document 01's plan, with document 02's late processes (M-105), and "The plan's author": refusals 1 to 5 and 19.
+use Prim.Native.Nat.{ℕ, _/_, _^_}
+use mathlib.Core.Bool.{Bool, cond, not, _&&_}
 use mathlib.Core.List.{List, [], _∷_}
-use mathlib.Core.Option.{Option, orElse}
+use mathlib.Core.Option.{Option, none, some, orElse}
 use lib.ListN.{getD}
 use lib.Dec.{leb, ltb, eqb}
 use Rattle.model.specs.declared.Topology.{Topology}
-use Rattle.model.specs.Notation.{allBelow, firstBelow}
+use Rattle.model.specs.Notation.{allBelow, firstBelow, bitOf}
 use Rattle.model.specs.Check.{Check, _gives_, firstRefusal}
 
 -- "a plan has 1 to 16" boards, and "0 to 64" wires
@@ -29,6 +29,15 @@ hasProcess T p = ltb p (T .processes)
 
 unfoldable pub hasChannel : Topology → ℕ → Bool
 hasChannel T c = ltb c (T .channels)
+
+-- Document 02, M-105: "A plan gains a 16-bit map [..] of late boards." A process that isn't late is early.
+unfoldable pub isLate : Topology → ℕ → Bool
+isLate T p = bitOf (T .late) p
+
+-- the first early process from `from` on, by the number of processes and the map: "A late board is passed over in
+-- copying"
+unfoldable pub firstEarly : (processes late from : ℕ) → Option ℕ
+firstEarly processes late from = firstBelow processes (λ p. cond (leb from p && not (bitOf late p)) (some p) none)
 
 -- two channels with the same ends in the same direction
 unfoldable pub sameEnds : Topology → ℕ → ℕ → Bool
@@ -59,6 +68,12 @@ sizeRefusal processes channels = firstRefusal (sizeChecks processes channels)
 unfoldable pub channelsRefusal : Topology → Option ℕ
 channelsRefusal T = firstBelow (T .channels) (channelRefusal T)
 
--- 1 and 2, then 3 to 5
+-- Document 02, M-105: "19, a late bit for a board not in the plan, after 5". The map without its lowest bits, as many
+-- as there are processes, is 0 just where no other bit stands (LateBits).
+unfoldable pub lateRefusal : Topology → Option ℕ
+lateRefusal T = firstRefusal ((not (eqb (T .late / 2 ^ T .processes) 0) gives 19) ∷ [])
+
+-- 1 and 2, then 3 to 5, then 19
 unfoldable pub topologyRefusal : Topology → Option ℕ
-topologyRefusal T = orElse (sizeRefusal (T .processes) (T .channels)) (channelsRefusal T)
+topologyRefusal T =
+    orElse (sizeRefusal (T .processes) (T .channels)) (orElse (channelsRefusal T) (lateRefusal T))

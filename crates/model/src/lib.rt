@@ -10,11 +10,14 @@ pub const CHANNELS: usize = 64;
 pub const PLACES: usize = 8;
 
 // Document 01's plan: how many processes (boards) and channels (wires) there are, and the two ends of each channel.
+// Document 02, M-105: bit p of `late` stands where process p is late, that is, has its physical checkpoint after the
+// logical one.
 pub struct Topology {
     pub processes: u8,
     pub channels: u8,
     pub from: [u8; CHANNELS],
     pub to: [u8; CHANNELS],
+    pub late: u16,
 }
 
 // Document 01's round: idle, copying (the physical phase, with the next process to checkpoint), marking (the
@@ -59,17 +62,22 @@ pub struct Receipt {
     pub body: u32,
 }
 
-// The receiver of an entry as it finds it: its number, whether it has its logical checkpoint, and its tag.
+// The receiver of an entry as it finds it: its number, whether it is late, whether it has its logical checkpoint and,
+// being late, its physical one in this round, and its tag.
 pub struct Receiver {
     pub process: u8,
+    pub late: bool,
     pub logical: bool,
+    pub saved: bool,
     pub tag: bool,
 }
 
-// What the round under way has done: the processes that have their logical checkpoint (marked boards), the channels
-// that are closed, and those on which the marker was sent (note put).
+// What the round under way has done: the processes that have their logical checkpoint (marked boards), the late ones
+// that have their physical checkpoint too (late boards copied), the channels that are closed, and those on which the
+// marker was sent (note put).
 pub struct Flags {
     pub logical: [bool; PROCESSES],
+    pub saved: [bool; PROCESSES],
     pub closed: [bool; CHANNELS],
     pub sent: [bool; CHANNELS],
 }
@@ -123,7 +131,7 @@ pub struct CallList {
     pub count: u16,
 }
 
-// The refusals of documents 01 and 02, in the order of their numbers, 1 to 18.
+// The refusals of documents 01 and 02, in the order of their numbers, 1 to 19.
 pub enum Refusal {
     ProcessCount,
     ChannelCount,
@@ -143,6 +151,7 @@ pub enum Refusal {
     BadCount,
     NothingRefused,
     LongList,
+    UnknownLate,
 }
 
 // What checks say: everything passes, or the first refusal.

@@ -13,7 +13,7 @@ use Rattle.model.specs.declared.Record.{Record}
 use Rattle.model.specs.declared.Record.the-variants.{Recover}
 use Rattle.model.specs.declared.CallList.{CallList}
 use Rattle.model.specs.Topology.{topologyRefusal}
-use Rattle.model.specs.Program.{planOf, planLength, shapeRefusal, planRefusal}
+use Rattle.model.specs.Program.{planOf, mapStart, planLength, shapeRefusal, planRefusal}
 use Rattle.model.specs.CallList.{callAt, listed, listLimit, Failure, rooms}
 use Rattle.model.specs.Reduction.{Sought, refuses, finds, callsAt, sought, Smallest}
 use Rattle.model.proofs.laws.Tests.{Tested, test, holds, fails}
@@ -96,7 +96,7 @@ module _ (T : Topology) (list : CallList) {f : Failure} (e : sought T (listed li
 
 -- how many bytes a plan that passes its checks has
 plan-few : (bytes : List ℕ) → planRefusal bytes ≡ none → length (take (planLength bytes) bytes) ≤ planBytes
-unfolding planRefusal planLength
+unfolding planRefusal planLength mapStart
 plan-few bytes e =
     let shaped = or-else-none (shapeRefusal bytes) (topologyRefusal (planOf bytes)) e .0 in
     omega (arith, whole bytes shaped .fit .channels, length-take (planLength bytes) bytes)

@@ -68,9 +68,9 @@ lineOf x = answerText (λ target. []) x []
 abbrev pub consoleText : ConsoleAnswer → List ℕ → List ℕ
 consoleText = answerText changedText
 
--- How many bytes an output has at most: a plan's are its two sizes and the two ends of each channel.
+-- How many bytes an output has at most: a plan's are its two sizes, the two ends of each channel, and the map's two.
 abbrev pub planBytes : ℕ
-planBytes = 2 + 2 * channelLimit
+planBytes = 2 + 2 * channelLimit + 2
 
 abbrev pub partBytes : ℕ
 partBytes = (listLimit - 1) * sentBytes longest + lastBytes longest
@@ -78,7 +78,7 @@ partBytes = (listLimit - 1) * sentBytes longest + lastBytes longest
 abbrev pub doneBytes : ℕ
 doneBytes = 5
 
--- the longer of the two long ones: 13,450 bytes for a part, and 143,456 for the cells
+-- the longer of the two long ones: 13,456 bytes for a part, and 143,456 for the cells
 abbrev pub consoleBytes : ℕ
 consoleBytes = max (planLineBytes planBytes + partBytes) (doneBytes + storeCells * cellBytes)
 

@@ -11,19 +11,19 @@ use native.Mathlib.Omega.{arith}
 use Rattle.model.specs.Notation.{tabulate}
 use Rattle.model.specs.Check.{Check, _gives_, firstRefusal}
 use Rattle.model.specs.Topology.{channelLimit, sizeRefusal}
-use Rattle.model.specs.Program.{endByte, planLength, shapeRefusal}
+use Rattle.model.specs.Program.{endByte, mapStart, planLength, shapeRefusal}
 use Rattle.model.proofs.laws.Functions.{seen-replicate, filledBelow, filled-none, filled-more}
 use Rattle.model.proofs.laws.Lists.{tabulate-length, tabulate-at, or-else-none}
 use Rattle.model.proofs.laws.Passing.{passed}
 use Rattle.model.proofs.laws.TopologyLaws.{SizesFit, sizes}
 
--- as many processes and channels as there may be, and the bytes of all of them
+-- as many processes and channels as there may be, and the bytes of all of them and of the map
 pub record Whole (bytes : List ℕ) : Type 0 where
   pub fit : SizesFit (getD bytes 0 0) (getD bytes 1 0)
-  pub all : 2 + 2 * getD bytes 1 0 ≤ length bytes
+  pub all : 2 + 2 * getD bytes 1 0 + 2 ≤ length bytes
 
 pub whole : (bytes : List ℕ) → shapeRefusal bytes ≡ none → Whole bytes
-unfolding shapeRefusal planLength
+unfolding shapeRefusal planLength mapStart
 whole bytes e =
     let short : List Check = (ltb (length bytes) 2 gives 7) ∷ [] in
     let broken : List Check = (ltb (length bytes) (planLength bytes) gives 7) ∷ [] in

@@ -24,6 +24,7 @@ unfoldable pub planOr : Option ℕ → Topology → PlanSaid
 planOr none T = record { refusal = none; plan = T }
 planOr (some n) T = refusedPlan n
 
--- "The plan's checks run: under two bytes 7; 1; 2; wires broken off 7; 3 to 5."
+-- "The plan's checks run: under two bytes 7; 1; 2; wires broken off 7; 3 to 5."; document 02, M-105: "A map broken off
+-- is 7, before 3.", and 19 "after 5"
 unfoldable pub planIn : List ℕ → PlanSaid
 planIn bytes = planOr (planRefusal bytes) (planOf bytes)

@@ -11,13 +11,16 @@ ghost use lib.ListN.{take, drop};
 ghost use Rattle.model.specs.Notation.{tabulate};
 ghost use Rattle.model.specs.Outcome.{refusalNumber, refusalOf};
 ghost use Rattle.model.specs.Topology.{channelLimit};
-ghost use Rattle.model.specs.Program.{inputBytes, endByte, planOf, planLength, shapeRefusal};
+ghost use Rattle.model.specs.Program.{inputBytes, endByte, mapStart, lateMap, planOf, planLength, shapeRefusal};
 ghost use Rattle.plan.specs.PlanRead.{planSaid, refusedPlan, planIn};
 
 const INPUT_BYTES: usize = 65536;
 
 // How many bytes a plan has before those of its channels: the numbers of processes and of channels.
 const SIZES: usize = 2;
+
+// How many bytes the map of late processes has, which a plan ends with (document 02, M-105).
+const MAP: usize = 2;
 
 // What bytes begin with: whether their plan passes its checks, and the plan; where it is refused, the blank one. (An
 // enum can't hold the arrays of a topology.)
@@ -36,9 +39,9 @@ pub fn taken(input: &[u8]) -> &[u8]
     &input[..INPUT_BYTES]
 }
 
-// How many bytes the plan has, by its number of channels, which is 0 where the bytes end before it.
-fn plan_length(bytes: &[u8]) -> usize
-    ensures { λ r. ⌜ r ≡ planLength (now (bytes .entry)) ⌝ }
+// Where the map stands, by the number of channels, which is 0 where the bytes end before it, and 255 at most.
+fn map_start(bytes: &[u8]) -> usize
+    ensures { λ r. ⌜ (r ≡ mapStart (now (bytes .entry))) × (r ≤ 512) ⌝ }
 {
     if bytes.len() < SIZES {
         return SIZES;
@@ -46,7 +49,14 @@ fn plan_length(bytes: &[u8]) -> usize
     SIZES + 2 * (bytes[1] as usize)
 }
 
-// Under two bytes 7; 1; 2; wires broken off 7.
+// How many bytes the plan has.
+fn plan_length(bytes: &[u8]) -> usize
+    ensures { λ r. ⌜ r ≡ planLength (now (bytes .entry)) ⌝ }
+{
+    map_start(bytes) + MAP
+}
+
+// Under two bytes 7; 1; 2; wires or map broken off 7.
 fn check(bytes: &[u8]) -> Verdict
     ensures { λ r. ⌜ refusalOf r ≡ shapeRefusal (now (bytes .entry)) ⌝ }
 {
@@ -78,18 +88,31 @@ fn ends(bytes: &[u8], first: usize) -> [u8; CHANNELS]
     r
 }
 
-// Boards, wires, and two bytes per wire: from, to.
+// The map of late processes: two bytes, lowest first.
+fn late_map(bytes: &[u8]) -> u16
+    requires { ⌜ shapeRefusal (now bytes) ≡ none ⌝ }
+    ensures { λ r. ⌜ r ≡ lateMap (now (bytes .entry)) ⌝ }
+{
+    let at = map_start(bytes);
+    let lowest = bytes[at];
+    let highest = bytes[at + 1];
+    lowest as u16 + 256 * (highest as u16)
+}
+
+// Boards, wires, two bytes per wire: from, to; and the map.
 fn topology(bytes: &[u8]) -> Topology
     requires { ⌜ shapeRefusal (now bytes) ≡ none ⌝ }
     ensures { λ r. ⌜ r ≡ planOf (now (bytes .entry)) ⌝ }
 {
     let from = ends(bytes, 2);
     let to = ends(bytes, 3);
+    let late = late_map(bytes);
     Topology {
         processes: bytes[0],
         channels: bytes[1],
         from,
         to,
+        late,
     }
 }
 

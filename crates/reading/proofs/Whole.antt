@@ -1,7 +1,7 @@
 -- A log of a store is whole or isn't, by its two tests; and every planned log of a store that isn't refused is.
 use Prim.Native.Nat.{ℕ, _+_, _*_, _<_, _≤_}
 use mathlib.Core.Path.{_≡_, refl, _∙_}
-use mathlib.Core.Bool.{true, false}
+use mathlib.Core.Bool.{Bool, true, false}
 use mathlib.Core.List.{List}
 use mathlib.Core.Option.{none}
 use lib.ListN.{length}
@@ -10,12 +10,12 @@ use borrow.Author.Tests.{lt-ltb, le-ltb, lt-leb, le-leb}
 use native.Mathlib.Omega.{arith}
 use Rattle.model.specs.declared.Topology.{Topology}
 use Rattle.model.specs.declared.Entry.{Entry}
+use Rattle.model.specs.Topology.{processLimit, channelLimit, isLate}
 use Rattle.model.specs.Channel.{messages}
 use Rattle.model.specs.Form.{Form, Log, messageLog, channelLog, cell, places, entryCells, countCell, logged}
 use Rattle.model.specs.Recover.{storedLine, recoverRefusal, restored}
 use Rattle.model.proofs.laws.Tests.{and-both, and-false}
 use Rattle.model.proofs.laws.TopologyLaws.{Planned}
-use Rattle.model.specs.Topology.{processLimit, channelLimit}
 use Rattle.model.proofs.store.Sizes.{Sized}
 use Rattle.model.proofs.store.Addresses.{in-store, log-within}
 use Rattle.model.proofs.store.Readable.{Readable, readable}
@@ -67,8 +67,9 @@ planned-whole F T st e log planned =
 
 -- so that what is read of a planned process or channel is what a restart gives it
 module _ (F : Form) (T : Topology) (st : List ℕ) (e : recoverRefusal F T st ≡ none) where
-  pub word-given : (p : ℕ) → p < T .processes → {r : ℕ} → r ≡ wordRead F st p → r ≡ restored F st (storedLine st) p
-  word-given p l is = is ∙ rw (planned-whole F T st e (messageLog p) l) refl
+  pub word-given : (p : ℕ) → p < T .processes → {late : Bool} → late ≡ isLate T p → {r : ℕ} → r ≡ wordRead F late st p
+      → r ≡ restored F (isLate T p) st (storedLine st) p
+  word-given p l told is = is ∙ rw (planned-whole F T st e (messageLog p) l, told) refl
 
   pub channel-given : (c : ℕ) → c < T .channels → {es : List Entry} → es ≡ channelRead F st c
       → es ≡ messages false (logged F st (storedLine st) c)

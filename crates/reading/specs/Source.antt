@@ -7,12 +7,12 @@ use mathlib.Core.Option.{Option, orElse}
 use lib.ListN.{length}
 use lib.Dec.{leb, ltb}
 use Rattle.model.specs.declared.Entry.{Entry}
+use Rattle.model.specs.declared.Receipt.{Receipt}
 use Rattle.model.specs.Check.{_gives_, firstRefusal}
-use Rattle.model.specs.Word.{replayBy}
 use Rattle.model.specs.Topology.{processLimit, channelLimit}
 use Rattle.model.specs.Channel.{messages}
 use Rattle.model.specs.Form as model
-use Rattle.model.specs.Form.{cell, messagePlaces, channelEntryCells, entriesFrom, receiptIn, bodyIn, logged}
+use Rattle.model.specs.Form.{cell, messagePlaces, channelEntryCells, entriesFrom, receiptIn, bodyIn, logged, restore}
 use Rattle.model.specs.Form.{Log, messageLog, channelLog, places, entryCells, countCell}
 use Rattle.model.specs.Layout.{present}
 use Rattle.model.specs.Recover.{storedLine, restored}
@@ -45,11 +45,11 @@ whole F store log =
     && (ltb (countCell F (storedLine store) log + entryCells F log * places log) (length store)
     && leb (cell store (countCell F (storedLine store) log)) (places log))
 
--- What is read of process p and of channel c, in any store: where their log is whole, what a restart by the form's
--- rules gives them if they are planned; 0 and nothing where it isn't. In a store that a restart takes, every planned
--- log is whole (proofs/Whole.antt).
-abbrev pub wordRead : model.Form → List ℕ → ℕ → ℕ
-wordRead F store p = cond (whole F store (messageLog p)) (restored F store (storedLine store) p) 0
+-- What is read of process p, which is late or not, and of channel c, in any store: where their log is whole, what a
+-- restart by the form's rules gives them if they are planned; 0 and nothing where it isn't. In a store that a restart
+-- takes, every planned log is whole (proofs/Whole.antt).
+abbrev pub wordRead : model.Form → Bool → List ℕ → ℕ → ℕ
+wordRead F late store p = cond (whole F store (messageLog p)) (restored F late store (storedLine store) p) 0
 
 abbrev pub channelRead : model.Form → List ℕ → ℕ → List Entry
 channelRead F store c =
@@ -60,11 +60,12 @@ pub record Lies (F : model.Form) (store : List ℕ) (at : ℕ) : Type 0 where
   pub inside : at + model.processCells F ≤ length store
   pub count : cell store (at + 1) ≤ messagePlaces
 
--- the word of the process whose record begins in the cell `at`
-abbrev pub wordAt : model.Form → List ℕ → ℕ → ℕ
-wordAt F store at =
-    replayBy (F .enter) (cell store at)
-    (map receiptIn (entriesFrom store (F .messageCells) (at + 1) (cell store (at + 1))))
+-- the receipts in the message log of the process whose record begins in the cell `at`, and its word
+abbrev pub receiptsAt : model.Form → List ℕ → ℕ → List Receipt
+receiptsAt F store at = map receiptIn (entriesFrom store (F .messageCells) (at + 1) (cell store (at + 1)))
+
+abbrev pub wordAt : model.Form → Bool → List ℕ → ℕ → ℕ
+wordAt F late store at = restore F late (cell store at) (receiptsAt F store at)
 
 -- the bodies of the channel log whose count stands in the cell `at`
 abbrev pub bodiesAt : List ℕ → ℕ → List ℕ

@@ -1,5 +1,5 @@
-// The two forms of the store: where each thing stands in a store of either, and the word rule that replays its logs.
-// The present form's numbers are those of rules::layout.
+// The two forms of the store: where each thing stands in a store of either, and the old one's word rule. The present
+// form's numbers are those of rules::layout.
 use model::Receipt;
 use rules::layout;
 use rules::word;

@@ -13,9 +13,11 @@ ghost use mathlib.Core.Path.{_≡_};
 ghost use Prim.Native.Nat.{_+_, _≤_};
 ghost use lib.ListN.{length};
 ghost use Rattle.model.specs.Channel.{entries};
-ghost use Rattle.model.specs.Form.{cellsFrom, receiptIn};
+ghost use Rattle.model.specs.Word.{leave, replayBy, undoBy};
+ghost use Rattle.model.specs.Form.{cell, cellsFrom, receiptIn};
+ghost use Rattle.model.specs.Layout.{present, messageEntryCells};
 ghost use Rattle.model.specs.Recover.{storedLine};
-ghost use Rattle.reading.specs.Source.{formOf, Lies, wordAt, wordRead, channelRead};
+ghost use Rattle.reading.specs.Source.{formOf, Lies, receiptsAt, wordAt, wordRead, channelRead};
 
 // The last recovery line finished; 0 where the store has no cell.
 pub fn line(store: &[u32]) -> u32
@@ -25,6 +27,17 @@ pub fn line(store: &[u32]) -> u32
         return 0;
     }
     store[layout::LINE_CELL]
+}
+
+// The receipt in the entry of a message log that begins in the cell at, in the present form: body, then channel.
+fn receipt(store: &[u32], at: usize) -> Receipt
+    requires { ⌜ at + messageEntryCells ≤ length (now store) ⌝ }
+    ensures { λ r. ⌜ r ≡ receiptIn (cellsFrom (now (store .entry)) messageEntryCells at) ⌝ }
+{
+    Receipt {
+        channel: store[at + 1],
+        body: store[at],
+    }
 }
 
 // What the entry of a message log that begins in the cell at makes of a word. An old one doesn't tell the channel.
@@ -41,20 +54,15 @@ fn entered(form: Form, store: &[u32], at: usize, word: u32) -> u32
                 body: store[at],
             },
         ),
-        Form::Present => word::enter(
-            word,
-            Receipt {
-                channel: store[at + 1],
-                body: store[at],
-            },
-        ),
+        Form::Present => word::enter(word, receipt(store, at)),
     }
 }
 
 // The word of the process whose record begins in the cell at: its message log replayed on its physical checkpoint.
 fn replayed(form: Form, store: &[u32], at: usize) -> u32
     requires { ⌜ Lies (formOf form) (now store) at ⌝ }
-    ensures { λ r. ⌜ r ≡ wordAt (formOf form) (now (store .entry)) at ⌝ }
+    ensures { λ r. ⌜ r ≡ replayBy (formOf form .enter) (cell (now (store .entry)) at)
+        (receiptsAt (formOf form) (now (store .entry)) at) ⌝ }
 {
     let n = store[at + 1] as usize;
     let cells = form::message_cells(form);
@@ -69,10 +77,44 @@ fn replayed(form: Form, store: &[u32], at: usize) -> u32
     word
 }
 
-// The word of a process at the store's line; 0 where there can be none such, its record isn't in the store, or its log
-// is over its places.
-pub fn word(form: Form, store: &[u32], process: u8) -> u32
-    ensures { λ r. ⌜ r ≡ wordRead (formOf form) (now (store .entry)) process ⌝ }
+// The same of a late process, in the present form: the anti-messages of its log undone on its physical checkpoint, the
+// last one first.
+fn undone(store: &[u32], at: usize) -> u32
+    requires { ⌜ Lies present (now store) at ⌝ }
+    ensures { λ r. ⌜ r ≡ undoBy leave (cell (now (store .entry)) at) (receiptsAt present (now (store .entry)) at) ⌝ }
+{
+    let mut i = store[at + 1] as usize;
+    let mut entry = at + 2 + layout::MESSAGE_ENTRY_CELLS * i;
+    let mut word = store[at];
+    while 0 < i {
+        i -= 1;
+        entry -= layout::MESSAGE_ENTRY_CELLS;
+        word = word::leave(word, receipt(store, entry));
+    }
+    word
+}
+
+// Either of the two, as the process is late or not; in the old form there are no anti-messages.
+fn restored(form: Form, store: &[u32], at: usize, late: bool) -> u32
+    requires { ⌜ Lies (formOf form) (now store) at ⌝ }
+    ensures { λ r. ⌜ r ≡ wordAt (formOf form) late (now (store .entry)) at ⌝ }
+{
+    match form {
+        Form::Old => replayed(form, store, at),
+        Form::Present => {
+            if late {
+                undone(store, at)
+            } else {
+                replayed(form, store, at)
+            }
+        }
+    }
+}
+
+// The word of a process, which is late or not, at the store's line; 0 where there can be none such, its record isn't in
+// the store, or its log is over its places.
+pub fn word(form: Form, store: &[u32], process: u8, late: bool) -> u32
+    ensures { λ r. ⌜ r ≡ wordRead (formOf form) late (now (store .entry)) process ⌝ }
 {
     if PROCESSES <= process as usize {
         return 0;
@@ -84,7 +126,7 @@ pub fn word(form: Form, store: &[u32], process: u8) -> u32
     if (layout::MESSAGE_PLACES as u32) < store[at + 1] {
         return 0;
     }
-    replayed(form, store, at)
+    restored(form, store, at, late)
 }
 
 // A channel at the store's line, as messages tagged 0; empty where there can be none such, its record isn't in the

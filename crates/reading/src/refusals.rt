@@ -30,7 +30,7 @@ pub fn long_enough(found: Verdict, form: Form, cells: usize) -> Verdict
     }
 }
 
-// Refusals 1 to 6, of a store of so many cells.
+// Refusals 1 to 5 and 19, then 6, of a store of so many cells.
 pub fn admit_cells(topology: Topology, form: Form, cells: usize) -> Verdict
     ensures { λ r. ⌜ refusalOf r ≡ initializeRefusal (formOf form) topology cells ⌝ }
 {
@@ -63,7 +63,7 @@ fn counts_fit(topology: Topology, form: Form, store: &[u32]) -> bool
     )
 }
 
-// Refusals 1 to 6, then 16.
+// Refusals 1 to 5 and 19, then 6, then 16.
 pub fn admit_store(topology: Topology, form: Form, store: &[u32]) -> Verdict
     ensures { λ r. ⌜ refusalOf r ≡ recoverRefusal (formOf form) topology (now (store .entry)) ⌝ }
 {

@@ -11,7 +11,7 @@ use Rattle.model.specs.declared.Entry.{Entry}
 use Rattle.model.specs.declared.Started.{Started}
 use Rattle.model.specs.declared.Topology.{Topology}
 use Rattle.model.specs.Notation.{tabulate}
-use Rattle.model.specs.Topology.{processLimit, channelLimit, hasProcess, hasChannel}
+use Rattle.model.specs.Topology.{processLimit, channelLimit, hasProcess, hasChannel, isLate}
 use Rattle.model.specs.Channel.{held, entries, messages}
 use Rattle.model.specs.Layout.{logged}
 use Rattle.model.specs.State.{GlobalState, view, idleState, blankState, noPlaces, entriesIn}
@@ -47,13 +47,13 @@ pub initial-state : (T : Topology) (places : List Places)
 initial-state T places = ap₂ (idleState T 0) (seen-replicate processLimit 0) (no-entries places)
 
 -- what recover makes of one process and of one channel
-abbrev pub wordOf : List ℕ → ℕ → ℕ
-wordOf st p = restored st (storedLine st) p
+abbrev pub wordOf : Topology → List ℕ → ℕ → ℕ
+wordOf T st p = restored (isLate T p) st (storedLine st) p
 
 abbrev pub channelOf : List ℕ → ℕ → List Entry
 channelOf st c = messages false (logged st (storedLine st) c)
 
-pub words-below : (T : Topology) (st : List ℕ) → filledBelow (T .processes) (wordOf st) 0 ≡ recoveredWord T st
+pub words-below : (T : Topology) (st : List ℕ) → filledBelow (T .processes) (wordOf T st) 0 ≡ recoveredWord T st
 unfolding recovery.recoveredWord hasProcess
 words-below T st = refl
 

@@ -1,5 +1,5 @@
-// Recover, document 01's restart; and what initialize, its setup, has in common with it: refusals 1 to 6, the first
-// state, and how a refusal is answered.
+// Recover, document 01's restart; and what initialize, its setup, has in common with it: refusals 1 to 5, 19
+// and 6, the first state, and how a refusal is answered.
 use model::CHANNELS;
 use model::PROCESSES;
 use model::Phase;
@@ -14,6 +14,7 @@ use model::Verdict;
 use reading::form::Form;
 use rules::channel;
 use rules::fresh;
+use rules::late;
 ghost use mathlib.Core.Path.{_≡_};
 ghost use mathlib.Core.List.{[]};
 ghost use mathlib.Core.Option.{none, some};
@@ -75,14 +76,14 @@ pub fn refused(refusal: Refusal) -> Started
     }
 }
 
-// Refusals 1 to 6.
+// Refusals 1 to 5 and 19, then 6.
 pub fn admit(topology: Topology, cells: usize) -> Verdict
     ensures { λ r. ⌜ refusalOf r ≡ initializeRefusal topology cells ⌝ }
 {
     reading::admit_cells(topology, Form::Present, cells)
 }
 
-// The words, by replaying the message logs on the physical checkpoints.
+// The words, by replaying the message logs on the physical checkpoints, and undoing those of late processes.
 fn words(topology: Topology, store: &[u32]) -> [u32; PROCESSES]
     requires { ⌜ recoverRefusal topology (now store) ≡ none ⌝ }
     ensures { λ r. ⌜ wordsSeen r ≡ recoveredWord topology (now (store .entry)) ⌝ }
@@ -90,7 +91,8 @@ fn words(topology: Topology, store: &[u32]) -> [u32; PROCESSES]
     let mut r = [0; PROCESSES];
     let mut p: u8 = 0;
     while p < topology.processes {
-        r[p as usize] = reading::word(Form::Present, store, p);
+        let late = late::is_late(topology.late, p);
+        r[p as usize] = reading::word(Form::Present, store, p, late);
         p += 1;
     }
     r

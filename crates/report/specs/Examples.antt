@@ -6,7 +6,7 @@ use mathlib.Core.Path.{_≡_}
 use mathlib.Core.List.{List, [], _∷_, _++_, map}
 use Rattle.model.specs.Outcome.{refused, cut}
 use Rattle.model.specs.Program.{head}
-use Rattle.model.specs.Cases.{input}
+use Rattle.model.specs.CaseInputs.{input}
 use Rattle.report.specs.Text.{chars, saidLine, cellText, outputText}
 use Rattle.report.specs.Hex.{planLineText, keptText, sentText, lastText, refusedText}
 
@@ -55,13 +55,13 @@ examples =
     -- `console`: a plan, a kept send, another kept call and the last one, and where none is shown
     ∷ record {
       got =
-          planLineText (0x02 ∷ 0x01 ∷ 0x00 ∷ 0x01 ∷ [])
+          planLineText (0x02 ∷ 0x01 ∷ 0x00 ∷ 0x01 ∷ 0x00 ∷ 0x00 ∷ [])
           ++ sentText (0x09 ∷ 0x01 ∷ 0x01 ∷ 0x00 ∷ 0x00 ∷ 0x00 ∷ []) 4 7
           ++ keptText (0x01 ∷ 0x03 ∷ []) 5
           ++ lastText (0x05 ∷ 0x02 ∷ 0x01 ∷ []) 9 8;
       expected =
           lines
-          ("02 01 00 01" ∷ "09 01 01 00 00 00 # 4 sent 7" ∷ "01 03 # 5" ∷ "05 02 01 # 9 refused 8" ∷ []);
+          ("02 01 00 01 00 00" ∷ "09 01 01 00 00 00 # 4 sent 7" ∷ "01 03 # 5" ∷ "05 02 01 # 9 refused 8" ∷ []);
     }
     ∷ record { got = keptText (0xFA ∷ 0x9C ∷ []) 10; expected = lines ("FA 9C # 10" ∷ []) }
     ∷ record { got = refusedText 17; expected = lines ("refused 17" ∷ []) }

@@ -1,5 +1,6 @@
--- Refusals 3 to 5 pass where every channel joins two processes and all are apart: the topology's checks in two passes.
-use Prim.Native.Nat.{ℕ, zero, suc, _<_}
+-- Refusals 3 to 5 pass where every channel joins two processes and all are apart, and 19 where every late bit is that
+-- of a process: the topology's checks in a pass for each.
+use Prim.Native.Nat.{ℕ, zero, suc, _<_, _/_, _^_}
 use mathlib.Core.Path.{_≡_, refl, _∙_}
 use mathlib.Core.Bool.{Bool, true, false, not, cond, _&&_}
 use mathlib.Core.Option.{Option, none, some, orElse}
@@ -8,7 +9,7 @@ use borrow.Author.Tests.{ltb-true}
 use Rattle.model.specs.declared.Topology.{Topology}
 use Rattle.model.specs.Notation.{allBelow, firstBelow}
 use Rattle.model.specs.Check.{accepts, firstRefusal}
-use Rattle.model.specs.Topology.{sender, receiver, hasProcess, sameEnds, channelRefusal}
+use Rattle.model.specs.Topology.{sender, receiver, hasProcess, sameEnds, channelRefusal, channelsRefusal, lateRefusal}
 use Rattle.model.proofs.laws.Tests.{true-is-not-false, and-left, and-right}
 use Rattle.rules.specs.Ends.{joinsTwo, apart}
 
@@ -54,7 +55,7 @@ crossed true false true d = refl
 crossed true false false d = refl
 crossed false b c d = refl
 
-pub pass-all : (T : Topology) (n : ℕ)
+pass-all : (T : Topology) (n : ℕ)
     → accepts (firstBelow n (channelRefusal T)) ≡ (allBelow n (joinsTwo T) && allBelow n (apart T))
 unfolding firstBelow allBelow accepts
 pass-all T zero = refl
@@ -62,3 +63,20 @@ pass-all T (suc n) =
     both (firstBelow n (channelRefusal T)) (channelRefusal T n)
     ∙ rw (pass-all T n, each T n)
     (crossed (allBelow n (joinsTwo T)) (allBelow n (apart T)) (joinsTwo T n) (apart T n))
+
+-- 19
+unless : (known : Bool) → accepts (cond (not known) (some 19) none) ≡ known
+unfolding accepts
+unless true = refl
+unless false = refl
+
+module _ (T : Topology) where
+  -- no bit stands at the number of processes or above
+  abbrev pub lateKnown : Bool
+  lateKnown = eqb (T .late / 2 ^ T .processes) 0
+
+  -- 3 to 5, then 19
+  pub beyond-pass : accepts (orElse (channelsRefusal T) (lateRefusal T))
+      ≡ ((allBelow (T .channels) (joinsTwo T) && allBelow (T .channels) (apart T)) && lateKnown)
+  unfolding channelsRefusal lateRefusal firstRefusal
+  beyond-pass = both (channelsRefusal T) (lateRefusal T) ∙ rw (pass-all T (T .channels), unless lateKnown)

@@ -1,5 +1,6 @@
-// A channel (document 01's wire) by value: its entries, first in first out, and how much room is left. How it lies in
-// its arrays, and what a place's kind means, is known here alone.
+// A channel (document 01's wire) by value: its entries, first in first out, and how much room is left. What a place's
+// kind means is known here alone; `reading` fills the bodies of blank places, and `sound` looks at lengths. Open in a
+// channel that is made here are its unused places, and how a marker is spelled in its place.
 use model::Channel;
 use model::Entry;
 use model::Places;

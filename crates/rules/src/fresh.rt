@@ -17,15 +17,17 @@ pub fn topology() -> Topology
         channels: 0,
         from: [0; CHANNELS],
         to: [0; CHANNELS],
+        late: 0,
     }
 }
 
-// No process has its logical checkpoint, no channel is closed, no marker was sent.
+// No process has its logical checkpoint, no late one its physical one, no channel is closed, no marker was sent.
 pub fn flags() -> Flags
     ensures { λ r. ⌜ viewProgress r ≡ noProgress ⌝ }
 {
     Flags {
         logical: [false; PROCESSES],
+        saved: [false; PROCESSES],
         closed: [false; CHANNELS],
         sent: [false; CHANNELS],
     }

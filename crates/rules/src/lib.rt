@@ -1,7 +1,8 @@
-// The rules of document 01 that code needs no precondition for, each equal to its definition in model.
+// The rules of documents 01 and 02 that code needs no precondition for, each equal to its definition in model.
 pub mod cells;
 pub mod channel;
 pub mod fresh;
+pub mod late;
 pub mod layout;
 pub mod phase;
 pub mod reaction;

@@ -7,11 +7,12 @@ use model::Receiver;
 ghost use mathlib.Core.Path.{_≡_};
 ghost use Rattle.model.specs.Outcome.{saidBy};
 ghost use Rattle.model.specs.Channel.{bodyOf, receiptOf};
+ghost use Rattle.model.specs.Receive.{inMessageLog};
 ghost use Rattle.model.specs.Step.{receivedOutcome};
 ghost use Rattle.rules.specs.Reacting.{Reacts, logging};
 
 // Whether the receiver gets its logical checkpoint first (is marked), whether the channel is closed, and the logs that
-// it goes into, in this order. specs/Reacting.antt has its meaning.
+// it goes into, one or both, in this order. specs/Reacting.antt has its meaning.
 pub struct Reaction {
     pub logical_first: bool,
     pub closes: bool,
@@ -31,6 +32,18 @@ fn logs(needed: bool) -> Reaction
     }
 }
 
+// Whether a message received in the logical phase goes into its receiver's message log. logical: whether the receiver
+// has its logical checkpoint by then. An early one logs before that; a late one, anti-messages, from then until it is
+// saved.
+fn in_message_log(late: bool, logical: bool, saved: bool) -> bool
+    ensures { λ r. ⌜ r ≡ inMessageLog late logical saved ⌝ }
+{
+    if late {
+        return logical & !saved;
+    }
+    !logical
+}
+
 // What an entry does to its receiver.
 pub fn react(phase: Phase, r: Receiver, e: Entry) -> Reaction
     ensures { λ x. ⌜ Reacts phase r e x ⌝ }
@@ -38,14 +51,15 @@ pub fn react(phase: Phase, r: Receiver, e: Entry) -> Reaction
     match e {
         Entry::Message { body: _, tag } => match phase {
             Phase::Idle => logs(false),
-            Phase::Physical(next) => logs(r.process < next),
+            Phase::Physical(next) => logs((r.process < next) & !r.late),
             Phase::Logical => {
                 let differs = tag != r.tag;
+                let message_log = in_message_log(r.late, r.logical | differs, r.saved);
                 Reaction {
                     logical_first: !r.logical & differs,
                     closes: false,
                     channel_log: r.logical & differs,
-                    message_log: !(r.logical | differs),
+                    message_log,
                 }
             }
         },

@@ -26,5 +26,6 @@ pub fn number(r: Refusal) -> u8
         Refusal::BadCount => 16,
         Refusal::NothingRefused => 17,
         Refusal::LongList => 18,
+        Refusal::UnknownLate => 19,
     }
 }

@@ -1,5 +1,6 @@
 // The soundness of a state: one that is not sound is refused with 15.
 use crate::channel;
+use crate::late;
 use crate::layout;
 use crate::phase;
 use crate::topology;
@@ -51,13 +52,13 @@ fn at_most(counts: &[u8], n: u8, limit: u8) -> bool
     so
 }
 
-// Whether the next process to have its physical checkpoint, if any, is in the topology.
+// Whether the next process to have its physical checkpoint, if any, is in the topology and isn't late.
 fn phase_sound(t: Topology, phase: Phase) -> bool
     ensures { λ r. ⌜ r ≡ phaseSound t phase ⌝ }
 {
     match phase {
         Phase::Idle => true,
-        Phase::Physical(next) => next < t.processes,
+        Phase::Physical(next) => (next < t.processes) & !late::is_late(t.late, next),
         Phase::Logical => true,
     }
 }

@@ -1,5 +1,6 @@
-// The checks of a topology (document 01's plan), refusals 1 to 5: first whether it passes, as fast as can be, since
-// every step asks that; and only where it doesn't, what refuses it.
+// The checks of a topology (document 01's plan), refusals 1 to 5 and 19: first whether it passes, as fast as can be,
+// since every step asks that; and only where it doesn't, what refuses it.
+use crate::late;
 use model::CHANNELS;
 use model::PROCESSES;
 use model::Refusal;
@@ -8,12 +9,13 @@ use model::Verdict;
 ghost use mathlib.Core.Path.{_≡_};
 ghost use Prim.Native.Nat.{_+_, _*_, _≤_, _<_};
 ghost use mathlib.Core.Bool.{true};
+ghost use mathlib.Core.Option.{orElse};
 ghost use Rattle.model.specs.Notation.{allBelow};
 ghost use Rattle.model.specs.Outcome.{refusalOf};
 ghost use Rattle.model.specs.Sound.{topologySound};
 ghost use Rattle.rules.specs.Ends.{joinsTwo, apart};
 ghost use Rattle.model.specs.Topology.{processLimit, channelLimit};
-ghost use Rattle.model.specs.Topology.{sizeRefusal, channelRefusal, channelsRefusal, topologyRefusal};
+ghost use Rattle.model.specs.Topology.{sizeRefusal, channelRefusal, channelsRefusal, lateRefusal, topologyRefusal};
 
 // How many pairs of processes there are.
 const PAIRS: usize = PROCESSES * PROCESSES;
@@ -74,7 +76,7 @@ fn distinct(t: Topology) -> bool
     so
 }
 
-// Whether a topology, any whatever, passes refusals 1 to 5.
+// Whether a topology, any whatever, passes refusals 1 to 5 and 19.
 pub fn passes(t: Topology) -> bool
     ensures { λ r. ⌜ r ≡ topologySound t ⌝ }
 {
@@ -84,7 +86,7 @@ pub fn passes(t: Topology) -> bool
     if !joined(t) {
         return false;
     }
-    distinct(t)
+    distinct(t) & late::known(t.processes, t.late)
 }
 
 // Whether no channel before channel c has its ends in its direction.
@@ -137,7 +139,24 @@ fn channels(t: Topology) -> Verdict
     Verdict::Pass
 }
 
-// Refusals 1 to 5, of any topology whatever.
+// Refusals 3 to 5, then 19.
+fn beyond_sizes(t: Topology) -> Verdict
+    requires { ⌜ t .channels ≤ channelLimit ⌝ }
+    ensures { λ r. ⌜ refusalOf r ≡ orElse (channelsRefusal t) (lateRefusal t) ⌝ }
+{
+    match channels(t) {
+        Verdict::Pass => {
+            if late::known(t.processes, t.late) {
+                Verdict::Pass
+            } else {
+                Verdict::Refuse(Refusal::UnknownLate)
+            }
+        }
+        Verdict::Refuse(r) => Verdict::Refuse(r),
+    }
+}
+
+// Refusals 1 to 5, then 19, of any topology whatever.
 pub fn check(t: Topology) -> Verdict
     ensures { λ r. ⌜ refusalOf r ≡ topologyRefusal t ⌝ }
 {
@@ -145,7 +164,7 @@ pub fn check(t: Topology) -> Verdict
         return Verdict::Pass;
     }
     match sizes(t.processes, t.channels) {
-        Verdict::Pass => channels(t),
+        Verdict::Pass => beyond_sizes(t),
         Verdict::Refuse(r) => Verdict::Refuse(r),
     }
 }

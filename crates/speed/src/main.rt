@@ -1,4 +1,4 @@
-// The work that bench/run measures. The input: a byte for the work, 4 for how often, the plan as in document 01, then a
+// The work that bench/run measures. The input: a byte for the work, 4 for how often, the plan as `head` has it, then a
 // script (six bytes a step: kind, process or channel, body; it ends before a kind that is none), a store's cells or
 // records; past its end all is 0. Printed is a checksum of each answer and of the last line, words, channels and store,
 // or of the store that another was carried into: 31 × sum + value, modulo 2^32. Where the plan is refused there is no

@@ -1,4 +1,4 @@
-// Work 2: recovers of one store, a cell of which changes each time.
+// Work 2: recovers of one store, a cell of which changes each time; of early processes or late ones, as the plan says.
 use crate::input::cells;
 use crate::sum::body_at;
 use crate::sum::fold;

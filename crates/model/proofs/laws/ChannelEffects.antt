@@ -3,19 +3,19 @@ use Prim.Native.Nat.{ℕ, _+_}
 use mathlib.Core.Path.{_≡_, refl, subst}
 use mathlib.Core.Bool.{false}
 use mathlib.Core.List.{List, [], _∷_, _++_}
-use lib.Dec.{ltb}
+use mathlib.Core.Option.{Option, none, some}
 use Rattle.model.specs.declared.Entry.{Entry}
 use Rattle.model.specs.declared.Entry.the-variants.{Message, Marker}
 use Rattle.model.specs.declared.Step.{Step}
 use Rattle.model.specs.declared.Step.the-variants.{Send, Receive, Begin, PhysicalCheckpoint}
 use Rattle.model.specs.declared.Step.the-variants.{LogicalCheckpoint, SendMarker, Commit, Abort}
 use Rattle.model.specs.Notation.{upd}
-use Rattle.model.specs.Topology.{sender, hasChannel}
+use Rattle.model.specs.Topology.{sender, hasChannel, isLate, firstEarly}
 use Rattle.model.specs.Channel.{bodies, messages}
 use Rattle.model.specs.State.{GlobalState, noCounts}
 use Rattle.model.specs.Change.{withRound, withTag, withChannel, withProgress, withCounts, inPhase, setEntries}
-use Rattle.model.specs.Change.{logicalCheckpoint, recordSent, plainChannels, endRound}
-use Rattle.model.specs.Step.{quietly, receive, physicalFrom, effect}
+use Rattle.model.specs.Change.{logicalCheckpoint, recordSaved, recordSent, plainChannels, endRound}
+use Rattle.model.specs.Step.{quietly, receive, physicalAt, physicalFrom, afterPhysical, effect}
 use Rattle.model.proofs.laws.Tests.{either}
 use Rattle.model.proofs.laws.Functions.{Indices, same, other, indices, upd-same, upd-other}
 use Rattle.model.proofs.laws.Receiving.{receive-takes}
@@ -29,9 +29,12 @@ pub data Becomes (s : GlobalState) (c : ℕ) : Step → List Entry → Type 0 wh
   plain : Becomes s c Abort (messages false (bodies (s .channel c)))
 
 physical-channels : (from : ℕ) (s : GlobalState) → physicalFrom from s .channel ≡ s .channel
-unfolding physicalFrom inPhase withRound withProgress
-physical-channels from s =
-    either (λ (y : GlobalState). y .channel ≡ s .channel) (ltb from (s .topology .processes)) _ _ refl refl
+unfolding physicalFrom physicalAt inPhase withRound withProgress
+physical-channels from s = go (firstEarly (s .topology .processes) (s .topology .late) from)
+  where
+    go : (o : Option ℕ) → physicalAt o s .channel ≡ s .channel
+    go (some p) = refl
+    go none = refl
 
 module _ (s : GlobalState) where
   -- entries put on channel d
@@ -44,8 +47,8 @@ module _ (s : GlobalState) where
       go (other n) = rw (upd-other (s .channel) d c es n) stays
 
   pub effect-becomes : (x : Step) (c : ℕ) → Becomes s c x (effect s x .state .channel c)
-  unfolding effect quietly receive setEntries withChannel withRound withTag withProgress withCounts logicalCheckpoint
-      recordSent endRound plainChannels
+  unfolding effect quietly receive afterPhysical setEntries withChannel withRound withTag withProgress withCounts
+      recordSaved logicalCheckpoint recordSent endRound plainChannels
   effect-becomes (Send d b) c = put d c (Send d b) _ (message b)
   effect-becomes (Receive d) c = go (s .channel d) refl
     where
@@ -53,7 +56,9 @@ module _ (s : GlobalState) where
       go [] q = stays
       go (e ∷ es) q = rw (receive-takes s d e es) (put d c (Receive d) es (taken e es q))
   effect-becomes Begin c = rw (physical-channels 0 (withCounts noCounts s)) stays
-  effect-becomes (PhysicalCheckpoint p) c = rw (physical-channels (p + 1) s) stays
+  effect-becomes (PhysicalCheckpoint p) c =
+      either (λ (y : GlobalState). Becomes s c (PhysicalCheckpoint p) (y .channel c)) (isLate (s .topology) p) _ _
+      stays (rw (physical-channels (p + 1) s) stays)
   effect-becomes (LogicalCheckpoint p) c = stays
   effect-becomes (SendMarker d) c = put d c (SendMarker d) _ marker
   effect-becomes Commit c = stays

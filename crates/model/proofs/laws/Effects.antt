@@ -3,25 +3,25 @@ use Prim.Native.Nat.{ℕ, _+_}
 use mathlib.Core.Path.{_≡_, refl, sym, subst}
 use mathlib.Core.Bool.{true, cond}
 use mathlib.Core.List.{List, [], _∷_}
+use mathlib.Core.Option.{Option, none, some}
 use lib.ListN.{length}
-use lib.Dec.{ltb}
 use native.Mathlib.Omega.{arith}
 use Rattle.model.specs.declared.Entry.{Entry}
 use Rattle.model.specs.declared.Entry.the-variants.{Message, Marker}
 use Rattle.model.specs.declared.Step.{Step}
 use Rattle.model.specs.declared.Step.the-variants.{Send, Receive, Begin, PhysicalCheckpoint}
 use Rattle.model.specs.declared.Step.the-variants.{LogicalCheckpoint, SendMarker, Commit, Abort}
-use Rattle.model.specs.Topology.{receiver}
+use Rattle.model.specs.Topology.{receiver, isLate, firstEarly}
 use Rattle.model.specs.State.{GlobalState, noCounts, raisedAll}
 use Rattle.model.specs.Change.{withRound, withWord, withTag, withChannel, withProgress, withCounts, inPhase}
-use Rattle.model.specs.Change.{setEntries}
-use Rattle.model.specs.Change.{enterMessage, logicalCheckpoint, close, recordSent, endRound}
+use Rattle.model.specs.Change.{setEntries, enterMessage, logicalCheckpoint, close, recordSaved, recordSent}
+use Rattle.model.specs.Change.{endRound}
 use Rattle.model.specs.Outcome.{refused}
 use Rattle.model.specs.Heard.{heard, accepted}
 use Rattle.model.specs.Write.{Answered, underBudget}
 use Rattle.model.specs.Receive.{Reaction}
-use Rattle.model.specs.Step.{quietly, nextLine, reaction, react, receivedOutcome, receive, physicalFrom, effect}
-use Rattle.model.specs.Step.{step, answer}
+use Rattle.model.specs.Step.{quietly, nextLine, reaction, react, receivedOutcome, receive, afterPhysical, effect}
+use Rattle.model.specs.Step.{physicalAt, physicalFrom, step, answer}
 use Rattle.model.specs.Run.{call, isCommit, countCommit}
 use Rattle.model.proofs.laws.Tests.{either}
 use Rattle.model.proofs.laws.Calls.{Stepped, stopped, passes, step-cases, Powered, lost, lasts, power-cases}
@@ -80,20 +80,24 @@ receive-follows s c (Marker ∷ es) =
     record { topology = h .topology; line = h .line }
 
 physical-follows : (from : ℕ) (s : GlobalState) → Follows s (physicalFrom from s) (s .round .line)
-unfolding physicalFrom inPhase withRound withProgress
-physical-follows from s =
-    either (λ (y : GlobalState). Follows s y (s .round .line)) (ltb from (s .topology .processes)) _ _
-    (record { topology = refl; line = refl }) (record { topology = refl; line = refl })
+unfolding physicalFrom physicalAt inPhase withRound withProgress
+physical-follows from s = go (firstEarly (s .topology .processes) (s .topology .late) from)
+  where
+    go : (o : Option ℕ) → Follows s (physicalAt o s) (s .round .line)
+    go (some p) = record { topology = refl; line = refl }
+    go none = record { topology = refl; line = refl }
 
 effect-follows : (budget : ℕ) (s : GlobalState) (x : Step)
     → Follows s (effect s x .state) (countCommit (call x budget) (heard (effect s x .outcome)) (s .round .line))
-unfolding effect quietly nextLine setEntries withChannel withRound withTag withProgress withCounts logicalCheckpoint
-    recordSent endRound countCommit isCommit
+unfolding effect quietly nextLine afterPhysical setEntries withChannel withRound withTag withProgress withCounts
+    recordSaved logicalCheckpoint recordSent endRound countCommit isCommit
 effect-follows budget s (Send c b) = record { topology = refl; line = refl }
 effect-follows budget s (Receive c) = rw (effect-accepted s (Receive c)) (receive-follows s c (s .channel c))
 effect-follows budget s Begin =
     let h = physical-follows 0 (withCounts noCounts s) in record { topology = h .topology; line = h .line }
-effect-follows budget s (PhysicalCheckpoint p) = physical-follows (p + 1) s
+effect-follows budget s (PhysicalCheckpoint p) =
+    either (λ (y : GlobalState). Follows s y (s .round .line)) (isLate (s .topology) p) _ _
+    (record { topology = refl; line = refl }) (physical-follows (p + 1) s)
 effect-follows budget s (LogicalCheckpoint p) = record { topology = refl; line = refl }
 effect-follows budget s (SendMarker c) = record { topology = refl; line = refl }
 effect-follows budget s Commit = record { topology = refl; line = refl }

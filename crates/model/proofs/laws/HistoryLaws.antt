@@ -12,12 +12,16 @@ use native.Mathlib.Omega.{arith}
 use Rattle.model.specs.Word.{receipt, enter, replay}
 use Rattle.model.specs.History.{Event, Direction, sent, received, isOn, sameDirection, bodiesOn, receiptsOf}
 use Rattle.model.specs.History.{placeOfSend}
-use Rattle.model.proofs.laws.WordLaws.{replay-snoc}
+use Rattle.model.proofs.laws.WordLaws.{modulus, replay-snoc, word-bounded}
 use Rattle.model.proofs.laws.Tests.{Tested, holds, fails, test}
 
 -- the word that the receives of a history make from 0
 unfoldable pub wordOf : List Event → ℕ
 wordOf es = replay 0 (receiptsOf es)
+
+pub history-bounded : (es : List Event) → wordOf es < modulus
+unfolding wordOf
+history-bounded es = word-bounded 0 (receiptsOf es) (omega arith)
 
 -- the part of a history before its mark of the round; all of it where there is none
 unfoldable pub before : Option ℕ → List Event → List Event

@@ -2,7 +2,7 @@
 -- a bound (`firstBelow`): from the values, at one index, and with one more, as a loop that counts up adds them.
 use Prim.Native.Nat.{ℕ, zero, suc, _+_, _<_, _≤_}
 use mathlib.Core.Path.{_≡_, refl, ap, ap₂, _∙_}
-use mathlib.Core.Bool.{Bool, true, false, _&&_}
+use mathlib.Core.Bool.{Bool, true, false, cond, _&&_}
 use mathlib.Core.List.{List, [], _∷_, _++_, map, map-append}
 use mathlib.Core.Option.{Option, none, some, orElse}
 use mathlib.Mathlib.Data.Option.Basic.{orElse-eq-none}
@@ -124,6 +124,11 @@ module _ {A : Type 0} where
       go (same q) lower = rw q (or-else-none (firstBelow n f) (f n) e .1)
       go (other q) lower = lower (omega (arith, q))
 
+  pub below-none : (n : ℕ) (f : ℕ → Option A) → ((i : ℕ) → i < n → f i ≡ none) → firstBelow n f ≡ none
+  unfolding firstBelow orElse
+  below-none zero f h = refl
+  below-none (suc n) f h = rw (below-none n f (λ i l. h i (omega arith)), h n (omega arith))
+
   pub first-next : (n : ℕ) (f : ℕ → Option A) → firstBelow n f ≡ none → firstBelow (n + 1) f ≡ f n
   unfolding firstBelow orElse
   first-next n f e = rw (add-one n, e)
@@ -137,3 +142,25 @@ module _ {A : Type 0} where
       go : Indices c n → (c < n → firstBelow n f ≡ some r) → orElse (firstBelow n f) (f n) ≡ some r
       go (same e) below = rw (← e, before) at
       go (other e) below = rw (below (omega (arith, e)))
+
+-- the first number below a bound of which a test holds, if there is one
+pub data Search (f : ℕ → Bool) (n : ℕ) : Option ℕ → Type 0 where
+  found : {p : ℕ} → p < n → f p ≡ true → ((q : ℕ) → q < p → f q ≡ false) → Search f n (some p)
+  absent : ((q : ℕ) → q < n → f q ≡ false) → Search f n none
+
+pub search-below : (f : ℕ → Bool) (n : ℕ) → Search f n (firstBelow n (λ p. cond (f p) (some p) none))
+unfolding firstBelow orElse
+search-below f zero = absent (λ q l. absurd (omega arith))
+search-below f (suc n) = go (search-below f n)
+  where
+    last : ((q : ℕ) → q < n → f q ≡ false) → Tested (f n) → Search f (suc n) (cond (f n) (some n) none)
+    last h (holds e) = rw e (found {p = n} (omega arith) e h)
+    last h (fails e) = rw e (absent (λ q l. up q l (indices q n)))
+      where
+        up : (q : ℕ) → q < suc n → Indices q n → f q ≡ false
+        up q l (same i) = rw i e
+        up q l (other i) = h q (omega (arith, i))
+
+    go : {o : Option ℕ} → Search f n o → Search f (suc n) (orElse o (cond (f n) (some n) none))
+    go (found {p} l e h) = found {p = p} (omega arith) e h
+    go (absent h) = last h (test (f n))

@@ -11,12 +11,13 @@ use Rattle.model.specs.declared.Step.{Step}
 use Rattle.model.specs.declared.Step.the-variants.{Send, Receive, Begin, PhysicalCheckpoint}
 use Rattle.model.specs.declared.Step.the-variants.{LogicalCheckpoint, SendMarker, Commit, Abort}
 use Rattle.model.specs.Check.{Check, firstRefusal}
-use Rattle.model.specs.Topology.{sender, hasProcess, hasChannel}
+use Rattle.model.specs.Topology.{sender, hasProcess, hasChannel, isLate}
 use Rattle.model.specs.Channel.{noEntry}
 use Rattle.model.specs.Phase.{isIdle, isLogical, isNext}
 use Rattle.model.specs.State.{GlobalState}
 use Rattle.model.specs.Sound.{lastLine}
-use Rattle.model.specs.Step.{mayCheckpointLogically, maySendMarker, mayCommit, markerOnClosed, priorChecks}
+use Rattle.model.specs.Step.{mayCheckpointPhysically, mayCheckpointLogically, maySendMarker}
+use Rattle.model.specs.Step.{hasPhysical, mayCommit, markerOnClosed, priorChecks}
 use Rattle.model.proofs.laws.Tests.{and-left, and-right, Tested, holds, fails, test}
 use Rattle.model.proofs.laws.Lists.{all-at}
 
@@ -64,9 +65,15 @@ module _ (s : GlobalState) where
     pub idle : isIdle (s .round .phase) ≡ true
     pub line : eqb (s .round .line) lastLine ≡ false
 
+  -- whose turn it is: an early process is the next one, a late one has its logical checkpoint and no physical one yet
+  pub data Turn (p : ℕ) : Type 0 where
+    early : isLate (s .topology) p ≡ false → isNext (s .round .phase) p ≡ true → Turn p
+    late : isLate (s .topology) p ≡ true → isLogical (s .round .phase) ≡ true → s .progress .logical p ≡ true
+        → s .progress .saved p ≡ false → Turn p
+
   pub record MayCheckpointPhysically (p : ℕ) : Type 0 where
     pub planned : p < s .topology .processes
-    pub next : isNext (s .round .phase) p ≡ true
+    pub turn : Turn p
 
   pub record MayCheckpointLogically (p : ℕ) : Type 0 where
     pub planned : p < s .topology .processes
@@ -83,6 +90,7 @@ module _ (s : GlobalState) where
   pub record MayCommit : Type 0 where
     pub phase : isLogical (s .round .phase) ≡ true
     pub processes : (p : ℕ) → p < s .topology .processes → s .progress .logical p ≡ true
+    pub saved : (p : ℕ) → p < s .topology .processes → isLate (s .topology) p ≡ true → s .progress .saved p ≡ true
     pub channels : (c : ℕ) → c < s .topology .channels → s .progress .closed c ≡ true
 
   abbrev pub Prior : Step → Type 0
@@ -101,14 +109,23 @@ module _ (s : GlobalState) where
       let all = not-false (a && b && c) e in
       let two = and-left (a && b) c all in (and-left a b two, and-right a b two, and-right (a && b) c all)
 
+  turn-of : (p : ℕ) → not (mayCheckpointPhysically s p) ≡ false → Turn p
+  unfolding mayCheckpointPhysically
+  turn-of p e = go (test (isLate (s .topology) p))
+    where
+      go : Tested (isLate (s .topology) p) → Turn p
+      go (holds l) =
+          let (phase, logical, unsaved) = three _ _ _ (rw l at e) in late l phase logical (not-true _ unsaved)
+      go (fails l) = early l (not-false _ (rw l at e))
+
   pub prior : (x : Step) → Passed (priorChecks s x) → Prior x
-  unfolding priorChecks hasChannel hasProcess mayCheckpointLogically maySendMarker mayCommit
+  unfolding priorChecks hasChannel hasProcess mayCheckpointLogically maySendMarker mayCommit hasPhysical
   prior (Send c b) p = below _ _ (p .0)
   prior (Receive c) p =
       let (planned, (entry, (unclosed, _))) = p in
       record { planned = below _ _ planned; entry = entry; unclosed = unclosed }
   prior Begin p = record { idle = not-false _ (p .0); line = p .1 .0 }
-  prior (PhysicalCheckpoint q) p = record { planned = below _ _ (p .0); next = not-false _ (p .1 .0) }
+  prior (PhysicalCheckpoint q) p = record { planned = below _ _ (p .0); turn = turn-of q (p .1 .0) }
   prior (LogicalCheckpoint q) p =
       let (phase, unmarked, turn) = three _ _ _ (p .1 .0) in
       record { planned = below _ _ (p .0); phase = phase; unmarked = not-true _ unmarked; turn = turn }
@@ -117,5 +134,11 @@ module _ (s : GlobalState) where
       record { planned = below _ _ (p .0); phase = phase; sender = sender; unsent = not-true _ unsent }
   prior Commit p =
       let (phase, processes, channels) = three _ _ _ (p .0) in
-      record { phase = phase; processes = all-at _ _ processes; channels = all-at _ _ channels }
+      let each = all-at (s .topology .processes) _ processes in
+      record {
+        phase = phase;
+        processes = λ q l. and-left _ _ (each q l);
+        saved = λ q l e. rw e at (and-right (s .progress .logical q) _ (each q l));
+        channels = all-at _ _ channels;
+      }
   prior Abort p = p .0

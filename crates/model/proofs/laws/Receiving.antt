@@ -30,6 +30,7 @@ afterReceive x c r es w s =
       progress =
           record {
             logical = cond (x .logicalFirst) (upd (s .progress .logical) r true) (s .progress .logical);
+            saved = s .progress .saved;
             closed = cond (x .closes) (upd (s .progress .closed) c true) (s .progress .closed);
             sent = s .progress .sent;
           };

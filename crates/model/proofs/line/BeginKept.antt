@@ -56,8 +56,9 @@ module _ (s : GlobalState) (st : List ℕ) (h : History) (ends : EndsPlanned (s 
               round =
                   record {
                     plain = record { tag = v .round .tag; mark = v .round .mark };
-                    saved = λ k. absurd (omega arith);
+                    saved = λ e k. absurd (omega arith);
                     waiting = λ k. refl;
+                    unlogged = λ e. refl;
                     counted = sym (empty (messageLog p) l);
                   };
             });

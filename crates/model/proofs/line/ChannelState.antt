@@ -208,7 +208,7 @@ module _ {t a r s k : Bool} {es : List Entry} {log out in′ : List ℕ} where
 
 module _ {t a r s k u : Bool} {b : ℕ} {es : List Entry} {log out in′ : List ℕ}
     (l : Balanced t a r s k (Message b u ∷ es) log out in′) where
-  open-while-old : u ≡ t → k ≡ true → ⊥
+  pub open-while-old : u ≡ t → k ≡ true → ⊥
   open-while-old e h =
       let (rest, is, shape) = old-first (l .shape) e in
       let p : b ∷ rest ≡ [] = sym is ∙ l .shut h .0 in

@@ -2,13 +2,14 @@
 -- power nothing is written.
 use Prim.Native.Nat.{ℕ, zero, suc, _+_, _<_, _≤_}
 use mathlib.Core.Path.{_≡_, refl, sym, ap, _∙_}
-use mathlib.Core.Bool.{Bool, true, not}
+use mathlib.Core.Bool.{Bool, true, false, not}
 use mathlib.Core.List.{List, _++_}
 use mathlib.Core.Option.{Option}
 use lib.ListN.{take}
 use native.Mathlib.Omega.{arith}
 use Rattle.model.specs.declared.Phase.the-variants.{Logical}
 use Rattle.model.specs.declared.Step.the-variants.{Commit}
+use Rattle.model.specs.Topology.{isLate}
 use Rattle.model.specs.Layout.{messageLog, channelLog}
 use Rattle.model.specs.State.{GlobalState}
 use Rattle.model.specs.Change.{endRound, withProgress, withRound}
@@ -16,7 +17,7 @@ use Rattle.model.specs.Write.{writeAll, commitWrites}
 use Rattle.model.specs.Step.{effect, nextLine}
 use Rattle.model.specs.History.{Event, Direction, History, sent, received, bodiesOn, markOr, onCommit, onStep}
 use Rattle.model.specs.History.{onAccepted}
-use Rattle.model.proofs.laws.Tests.{true-is-not-false}
+use Rattle.model.proofs.laws.Tests.{true-is-not-false, Tested, holds, fails, test}
 use Rattle.model.proofs.laws.Passing.{MayCommit}
 use Rattle.model.proofs.laws.SoundLaws.{Fits}
 use Rattle.model.proofs.laws.HistoryLaws.{wordOf, before, Marked, unmarked, marked}
@@ -24,8 +25,9 @@ use Rattle.model.proofs.store.Sizes.{sized-after}
 use Rattle.model.proofs.store.Slots.{committed, committed-log, committed-process}
 use Rattle.model.proofs.line.ChannelState.{closed-channel}
 use Rattle.model.proofs.line.Counted.{counted-closed}
-use Rattle.model.proofs.line.Values.{slotOf, slotBy, heldOf, heldBy, bookOf, seenOf, channelAt}
-use Rattle.model.proofs.line.Invariant.{tagged, EndsPlanned, Inv, Keeps, KeepsBy, KeepsLostBy}
+use Rattle.model.proofs.line.Values.{slotOf, slotBy, heldOf, heldBy, bookOf, seenOf, processAt, channelAt}
+use Rattle.model.proofs.line.Invariant.{tagged, lateUnsaved, physicalNow, EndsPlanned, Inv, Keeps, KeepsBy}
+use Rattle.model.proofs.line.Invariant.{KeepsLostBy}
 use Rattle.model.proofs.line.Frames.{slot-same, held-same, slot-by, held-by}
 use Rattle.model.proofs.line.Phases.{is-logical, process-in, channel-in}
 
@@ -60,7 +62,15 @@ module _ (s : GlobalState) (st : List ℕ) (h : History) (ends : EndsPlanned (s 
       slot-by after n p (s .counts .messages p) (process-in i phase p l .round .counted ∙ sym (same .log .count))
       ∙ slot-same n p (s .counts .messages p) same
 
-  -- every channel is closed
+  -- every late process has its physical checkpoint
+  all-saved : (p : ℕ) → p < s .topology .processes → lateUnsaved (processAt s st h p) ≡ false
+  all-saved p l = go (test (isLate (s .topology) p))
+    where
+      go : Tested (isLate (s .topology) p) → lateUnsaved (processAt s st h p) ≡ false
+      go (holds e) = rw (e, may .saved p l e)
+      go (fails e) = rw e
+
+  -- every channel is closed, so that none has a count ahead in the store
   same-count : (c : ℕ) → c < s .topology .channels
       → channelAt s st h c .count ≡ channelAt s st h c .pending .count
   same-count c l =
@@ -86,6 +96,7 @@ module _ (s : GlobalState) (st : List ℕ) (h : History) (ends : EndsPlanned (s 
 
   lasts : KeepsBy s st h Commit (effect s Commit)
   unfolding effect nextLine endRound withProgress withRound onStep onAccepted bookOf seenOf onCommit tagged
+      physicalNow
   lasts =
       record {
         sized = sized-after (i .sized) (commitWrites n);
@@ -97,7 +108,7 @@ module _ (s : GlobalState) (st : List ℕ) (h : History) (ends : EndsPlanned (s 
             (record {
               now = v .now;
               within = mark-within (h .line p) (v .round .mark) (may .processes p l);
-              finished = v .round .saved ∙ ap wordOf (at-line p l);
+              finished = rw (all-saved p l) at (v .round .saved) ∙ ap wordOf (at-line p l);
               fits = rw (← v .round .counted) (fits (messageLog p) l);
               round = record { tag = v .round .tag ∙ ap (tagged (i .tag)) (may .processes p l); mark = refl };
             });

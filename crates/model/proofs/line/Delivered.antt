@@ -1,5 +1,5 @@
--- A message that is received: the receiver's word, its history and its channel change, and at most one log. Given what
--- becomes of that process and of that channel, the invariant holds.
+-- A message that is received: the receiver's word, its history and its channel change, and at most one log (of two, the
+-- second: MessageKept). Given what becomes of that process and of that channel, the invariant holds.
 use Prim.Native.Nat.{ℕ, _+_, _<_}
 use mathlib.Core.Path.{_≡_, _∙_}
 use mathlib.Core.Bool.{Bool}

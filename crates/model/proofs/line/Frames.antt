@@ -22,7 +22,7 @@ module _ {st st′ : List ℕ} (n p k : ℕ) where
   pub slot-same : SameProcess n p k st st′ → slotBy st′ n k p ≡ slotBy st n k p
   unfolding slotBy form.receiptsBy
   slot-same e =
-      λ i. record { copy = e .physical i; receipts = map receiptIn (e .log .entries i); count = e .log .count i }
+      λ i. record { physical = e .physical i; receipts = map receiptIn (e .log .entries i); count = e .log .count i }
 
   pub held-same : SameLog n (channelLog p) k st st′ → heldBy st′ n k p ≡ heldBy st n k p
   unfolding heldBy form.bodiesBy

@@ -3,8 +3,8 @@
 -- phase.
 use Prim.Native.Nat.{ℕ, _<_, _≤_}
 use mathlib.Core.Path.{_≡_}
-use mathlib.Core.Bool.{Bool, true, false, not}
-use mathlib.Core.List.{List, _++_}
+use mathlib.Core.Bool.{Bool, true, false, cond, not, _&&_}
+use mathlib.Core.List.{List, [], _++_}
 use mathlib.Core.Option.{none}
 use lib.ListN.{length, take}
 use Rattle.model.specs.declared.Topology.{Topology}
@@ -14,7 +14,7 @@ use Rattle.model.specs.declared.Step.{Step}
 use Rattle.model.specs.Word.{replay}
 use Rattle.model.specs.Topology.{sender, receiver}
 use Rattle.model.specs.Channel.{bodies, messages}
-use Rattle.model.specs.Layout.{present, cell, lineCell, messagePlaces, channelPlaces}
+use Rattle.model.specs.Layout.{present, cell, lineCell, messagePlaces, channelPlaces, restore}
 use Rattle.model.specs.State.{GlobalState}
 use Rattle.model.specs.Write.{Result, writeAll}
 use Rattle.model.specs.Step.{effect}
@@ -36,19 +36,30 @@ pub record Unmarked (t : Bool) (v : Process) : Type 0 where
   pub tag : v .tag ≡ t
   pub mark : v .book .mark ≡ none
 
--- The physical phase: a process below next is saved as it stands now, and the message log of any other is empty.
+-- The physical phase: an early process below next is saved as it stands now, and the message log of any other is empty.
 pub record PhysicalProcess (t : Bool) (next p : ℕ) (v : Process) : Type 0 where
   pub plain : Unmarked t v
-  pub saved : p < next → replay (v .pending .copy) (v .pending .receipts) ≡ v .word
+  pub saved : v .late ≡ false → p < next → replay (v .pending .physical) (v .pending .receipts) ≡ v .word
   pub waiting : next ≤ p → v .count ≡ 0
+  pub unlogged : v .late ≡ true → v .count ≡ 0
   pub counted : v .count ≡ v .pending .count
+
+-- a late process that has no physical checkpoint yet
+abbrev pub lateUnsaved : Process → Bool
+lateUnsaved v = v .late && not (v .saved)
+
+-- the physical checkpoint in the pending slot, or what it would be if it were made now
+unfoldable pub physicalNow : Process → ℕ
+physicalNow v = cond (lateUnsaved v) (v .word) (v .pending .physical)
 
 -- The logical phase: a process is saved as it stood at its mark, or stands now.
 pub record LogicalProcess (t : Bool) (v : Process) : Type 0 where
   pub tag : v .tag ≡ tagged t (v .logical)
   pub mark : Marked (length (v .book .events)) (v .logical) (v .book .mark)
-  pub saved : replay (v .pending .copy) (v .pending .receipts)
+  pub saved : restore (v .late) (physicalNow v) (v .pending .receipts)
       ≡ wordOf (before (v .book .mark) (v .book .events))
+  -- a late one has no anti-message and no physical checkpoint before its mark
+  pub untouched : v .late ≡ true → v .logical ≡ false → (v .pending .receipts ≡ []) × (v .saved ≡ false)
   pub counted : v .count ≡ v .pending .count
 
 abbrev pub ProcessIn : Bool → Phase → ℕ → Process → Type 0
@@ -61,7 +72,7 @@ pub record ProcessHolds (t : Bool) (phase : Phase) (p : ℕ) (v : Process) : Typ
   pub now : v .word ≡ wordOf (v .book .events)
   -- the finished slot has its word at the line
   pub within : v .book .place ≤ length (v .book .events)
-  pub finished : replay (v .finished .copy) (v .finished .receipts)
+  pub finished : restore (v .late) (v .finished .physical) (v .finished .receipts)
       ≡ wordOf (take (v .book .place) (v .book .events))
   pub fits : v .finished .count ≤ messagePlaces
   pub round : ProcessIn t phase p v

@@ -18,7 +18,7 @@ use Rattle.model.proofs.laws.SoundLaws.{Fits}
 use Rattle.model.proofs.store.Writes.{each-take}
 use Rattle.model.proofs.store.Addresses.{Of}
 use Rattle.model.proofs.store.Slots.{IntoLog, log-into, log-in, log-other, log-physical, log-counted}
-use Rattle.model.proofs.store.Slots.{log-appended}
+use Rattle.model.proofs.store.Slots.{log-appended, log-behind}
 use Rattle.model.proofs.store.Slots.{SameLog, log-lost}
 use Rattle.model.proofs.line.Values.{slotBy, heldBy, processAt, channelAt}
 use Rattle.model.proofs.line.Invariant.{Inv}
@@ -143,6 +143,22 @@ module _ (s : GlobalState) (st : List ℕ) (h : History) (i : Inv s st h) (r : R
         log-appended (s .topology) st (i .sized) n log k r l room,
         kept,
         map-append receiptIn (entriesBy st n log k) (entryFor log r ∷ []),
+      )
+
+  -- the channel's log, read as the state has it: the store is one ahead
+  pub held-behind : (c : ℕ) → c < s .topology .channels → s .counts .channels c < channelPlaces
+      → heldBy (writeAll st (logWrites (s .round .line + 1) (channelLog c) (s .counts .channels c) r))
+      (s .round .line + 1)
+      (s .counts .channels c) c
+      ≡ record { bodies = channelAt s st h c .pending .bodies; count = s .counts .channels c + 1 }
+  unfolding heldBy form.bodiesBy
+  held-behind c l room =
+      let n : ℕ = s .round .line + 1 in
+      let k : ℕ = s .counts .channels c in
+      let log : Log = channelLog c in
+      rw (
+        log-counted (s .topology) st (i .sized) n log k r l room,
+        log-behind (s .topology) st (i .sized) n log k r l room,
       )
 
   pub held-logged : (c : ℕ) → c < s .topology .channels → s .counts .channels c < channelPlaces

@@ -1,10 +1,12 @@
--- A message received keeps the invariant, by the logs that it goes into: none, the receiver's message log, or the
--- channel's log.
+-- A message received keeps the invariant, by the logs that it goes into: none, the receiver's message log, the
+-- channel's log, or both. Where it goes into both, the channel's log comes first; once that is written, and whether the
+-- power lasts then or not, the invariant holds of the state as it was (`ahead-kept`), and what follows is a receive
+-- into one log.
 use Prim.Native.Nat.{ℕ, _+_, _<_}
-use mathlib.Core.Path.{_≡_, refl, sym}
-use mathlib.Core.Bool.{Bool}
-use mathlib.Core.List.{List}
-use lib.ListN.{length, take}
+use mathlib.Core.Path.{_≡_, refl, sym, ap, _∙_}
+use mathlib.Core.Bool.{Bool, true}
+use mathlib.Core.List.{List, _∷_}
+use Rattle.model.specs.declared.Phase.the-variants.{Logical}
 use Rattle.model.specs.declared.Receipt.{Receipt}
 use Rattle.model.specs.declared.Entry.{Entry}
 use Rattle.model.specs.declared.Entry.the-variants.{Message}
@@ -14,25 +16,27 @@ use Rattle.model.specs.Word.{receipt}
 use Rattle.model.specs.Topology.{receiver}
 use Rattle.model.specs.Channel.{receiptOf}
 use Rattle.model.specs.Layout.{Log, messageLog, channelLog, messagePlaces, channelPlaces}
-use Rattle.model.specs.State.{GlobalState, LogCounts, raised, raisedAll}
+use Rattle.model.specs.State.{GlobalState, LogCounts, raised}
 use Rattle.model.specs.Change.{setEntries, enterMessage, withCounts}
 use Rattle.model.specs.Write.{Result, Write, writeAll, logWrites, logsWrites}
 use Rattle.model.specs.Receive.{Reaction}
 use Rattle.model.specs.Step.{nextLine, react, receivedOutcome}
 use Rattle.model.specs.History.{History, received, addEvent}
-use Rattle.model.proofs.laws.Functions.{upd-same, upd-other}
+use Rattle.model.proofs.laws.Functions.{by-index, upd-same, upd-other}
 use Rattle.model.proofs.laws.SoundLaws.{Fits}
 use Rattle.model.proofs.laws.HistoryLaws.{receivedOn}
 use Rattle.model.proofs.store.Slots.{IntoLog, log-into}
+use Rattle.model.proofs.line.Counted.{ahead}
 use Rattle.model.proofs.line.Values.{Process, Channel, Seen, processAt, channelAt, heldBy, bookOf, seenOf}
 use Rattle.model.proofs.line.Invariant.{ProcessHolds, ChannelHolds, EndsPlanned, Inv, KeepsBy, KeepsLostBy}
 use Rattle.model.proofs.line.Books.{longer}
 use Rattle.model.proofs.line.ProcessState.{receiving, loggedSlot}
 use Rattle.model.proofs.line.ChannelKept.{leaving, loggedHeld}
 use Rattle.model.proofs.line.Frames.{Spared}
+use Rattle.model.proofs.line.Phases.{channel-in}
 use Rattle.model.proofs.line.LogFrames.{other-message, other-channel, message-is-no-channel, log-spared}
 use Rattle.model.proofs.line.LogFrames.{slot-aside, held-aside, slot-logged}
-use Rattle.model.proofs.line.LogFrames.{held-logged}
+use Rattle.model.proofs.line.LogFrames.{held-behind, held-logged}
 use Rattle.model.proofs.line.Delivered.{delivered-holds}
 
 -- a receive with this reaction
@@ -87,15 +91,6 @@ module _ (s : GlobalState) (st : List ℕ) (h : History) (i : Inv s st h) (ends 
 
   abbrev pub added : History
   added = addEvent r (receivedOn c b) h
-
-  -- the invariant with the message in these logs, where the power lasts, and where it is lost on the way
-  abbrev pub Logged : List Log → Type 0
-  Logged logs = Inv (delivered (raisedAll logs (s .counts))) (writeAll st (logsWrites n (s .counts) logs got)) added
-
-  abbrev pub LostOn : List Log → Type 0
-  LostOn logs =
-      (x : ℕ) → x < length (logsWrites n (s .counts) logs got)
-      → Inv s (writeAll st (take x (logsWrites n (s .counts) logs got))) h
 
   -- in no log
   pub unlogged : Receives (receiving c b (process .count) (process .pending) process)
@@ -182,3 +177,53 @@ module _ (s : GlobalState) (st : List ℕ) (h : History) (i : Inv s st h) (ends 
           (λ e. message-is-no-channel (sym e))) receives)
           (rw (upd-same (s .counts .channels) c (s .counts .channels c + 1), held-logged s st h i got c l room)
           leaves)
+
+      -- the channel's log has it and the state doesn't: the count in the store is ahead, and the message is still first
+      module _ (phase : s .round .phase ≡ Logical) (marked : s .progress .logical r ≡ true)
+          (first : s .channel c ≡ Message b u ∷ es) (old : u ≡ i .tag) where
+        own-ahead : ChannelHolds (i .tag) Logical (channelAt s afterChannel h c)
+        own-ahead =
+            let v = channel-in i phase c l in
+            let kept = log-spared s st h i fits (channelLog c) l got room in
+            rw (kept .helds c l, held-behind s st h i got c l room)
+            (record {
+              now = v .now;
+              finished = v .finished;
+              fits = v .fits;
+              round =
+                  record {
+                    balanced = v .round .balanced;
+                    counted = ahead marked (first ∙ ap (λ (t : Bool). Message b t ∷ es) old);
+                  };
+            })
+
+        pub ahead-kept : Inv s afterChannel h
+        ahead-kept =
+            let log : Log = channelLog c in
+            let kept = log-spared s st h i fits log l got room in
+            record {
+              sized = kept .sized;
+              stored = kept .line ∙ i .stored;
+              tag = i .tag;
+              processes = λ q k.
+                  rw (
+                    kept .slots q k,
+                    slot-aside s st h i fits log l got room channelWrites into-channel q k
+                        (λ e. message-is-no-channel (sym e)),
+                  )
+                  (i .processes q k);
+              channels =
+                  by-index (λ d. d < s .topology .channels
+                  → ChannelHolds (i .tag) (s .round .phase) (channelAt s afterChannel h d)) c
+                  (λ k. rw phase own-ahead)
+                  (λ d o k.
+                  rw (
+                    kept .helds d k,
+                    held-aside s st h i fits log l got room channelWrites into-channel d k (other-channel o),
+                  )
+                  (i .channels d k));
+            }
+
+        pub ahead-tag : ahead-kept .tag ≡ i .tag
+        unfolding ahead-kept
+        ahead-tag = refl

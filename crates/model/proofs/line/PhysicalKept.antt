@@ -1,28 +1,32 @@
--- A physical checkpoint keeps the invariant: the process is saved as it stands, and what follows is in NextPhase.antt.
--- Without power nothing is written.
+-- A physical checkpoint keeps the invariant: the process is saved as it stands. An early one is saved so in the
+-- physical phase, which goes on then; a late one after its logical checkpoint, with the anti-messages that lead back to
+-- it in its log. Without power nothing is written.
 use Prim.Native.Nat.{ℕ, zero, suc, _+_, _<_}
 use mathlib.Core.Path.{_≡_, _∙_}
+use mathlib.Core.Bool.{true, false}
 use mathlib.Core.List.{List}
 use native.Mathlib.Omega.{arith}
-use Rattle.model.specs.declared.Phase.the-variants.{Physical}
+use Rattle.model.specs.declared.Phase.the-variants.{Physical, Logical}
 use Rattle.model.specs.declared.Step.the-variants.{PhysicalCheckpoint}
 use Rattle.model.specs.Notation.{tabulate}
 use Rattle.model.specs.Word.{replayBy, replay}
+use Rattle.model.specs.Topology.{isLate}
 use Rattle.model.specs.Layout.{messageLog, channelLog, entriesFrom}
 use Rattle.model.specs.State.{GlobalState}
-use Rattle.model.specs.Change.{inPhase, withRound}
+use Rattle.model.specs.Change.{inPhase, withRound, withProgress, withSaved, recordSaved}
 use Rattle.model.specs.Write.{Write, writeAll, physicalWrites}
-use Rattle.model.specs.Step.{effect, nextLine}
+use Rattle.model.specs.Step.{effect, nextLine, afterPhysical, physicalFrom}
 use Rattle.model.specs.History.{History, onStep, onAccepted}
 use Rattle.model.specs.Form as form
-use Rattle.model.proofs.laws.Functions.{by-index}
-use Rattle.model.proofs.laws.Passing.{MayCheckpointPhysically}
+use Rattle.model.proofs.laws.Functions.{by-index, upd-same, upd-other}
+use Rattle.model.proofs.laws.Passing.{MayCheckpointPhysically, Turn, early, late}
 use Rattle.model.proofs.laws.SoundLaws.{Fits}
 use Rattle.model.proofs.store.Slots.{physical-in, physical-written, physical-log, physical-other}
 use Rattle.model.proofs.line.Values.{Slot, slotBy, heldBy, processAt}
 use Rattle.model.proofs.line.Invariant.{EndsPlanned, ProcessHolds, Inv, Keeps, KeepsBy, KeepsLostBy}
 use Rattle.model.proofs.line.Frames.{slot-same, held-same, Spared, spared-all}
-use Rattle.model.proofs.line.Phases.{is-next, process-in, channel-in}
+use Rattle.model.proofs.line.ProcessState.{process-physical}
+use Rattle.model.proofs.line.Phases.{is-next, is-logical, process-in, channel-in}
 use Rattle.model.proofs.line.NextPhase.{physical-from}
 
 module _ (s : GlobalState) (st : List ℕ) (h : History) (p : ℕ) (ends : EndsPlanned (s .topology))
@@ -48,12 +52,12 @@ module _ (s : GlobalState) (st : List ℕ) (h : History) (p : ℕ) (ends : EndsP
       (fits (channelLog c) l))
 
   -- this process has its word in the slot, and the others have there what they had
-  abbrev copied : Slot
-  copied =
+  abbrev written : Slot
+  written =
       let before : Slot = slotBy st n (s .counts .messages p) p in
-      record { copy = s .word p; receipts = before .receipts; count = before .count }
+      record { physical = s .word p; receipts = before .receipts; count = before .count }
 
-  own-slot : slotBy after n (s .counts .messages p) p ≡ copied
+  own-slot : slotBy after n (s .counts .messages p) p ≡ written
   unfolding slotBy form.receiptsBy
   own-slot =
       let log = physical-log (s .topology) st (i .sized) n p (s .word p) planned (messageLog p) planned _
@@ -68,7 +72,7 @@ module _ (s : GlobalState) (st : List ℕ) (h : History) (p : ℕ) (ends : EndsP
 
   -- the process is the next: those before it and itself are saved as they stand
   module _ (phase : s .round .phase ≡ Physical p) where
-    own-saved : replay (copied .copy) (copied .receipts) ≡ s .word p
+    own-saved : replay (written .physical) (written .receipts) ≡ s .word p
     unfolding slotBy form.receiptsBy form.entriesBy entriesFrom tabulate replayBy
     own-saved = rw (process-in i phase p planned .round .waiting (omega arith))
 
@@ -89,8 +93,9 @@ module _ (s : GlobalState) (st : List ℕ) (h : History) (p : ℕ) (ends : EndsP
           round =
               record {
                 plain = record { tag = v .round .plain .tag; mark = v .round .plain .mark };
-                saved = λ k. own-saved;
+                saved = λ e k. own-saved;
                 waiting = λ k. absurd (omega arith);
+                unlogged = v .round .unlogged;
                 counted = v .round .counted;
               };
         }))
@@ -105,8 +110,9 @@ module _ (s : GlobalState) (st : List ℕ) (h : History) (p : ℕ) (ends : EndsP
           round =
               record {
                 plain = record { tag = v .round .plain .tag; mark = v .round .plain .mark };
-                saved = λ k. v .round .saved (omega (arith, o));
+                saved = λ e k. v .round .saved e (omega (arith, o));
                 waiting = λ k. v .round .waiting (omega arith);
+                unlogged = v .round .unlogged;
                 counted = v .round .counted;
               };
         }))
@@ -130,13 +136,38 @@ module _ (s : GlobalState) (st : List ℕ) (h : History) (p : ℕ) (ends : EndsP
               });
         }
 
+    early-kept : Inv (physicalFrom (p + 1) s) after h
+    early-kept = physical-from s after h (p + 1) ends next-after
+
+  -- a late one, after its logical checkpoint
+  module _ (is-late : isLate (s .topology) p ≡ true) (phase : s .round .phase ≡ Logical)
+      (marked : s .progress .logical p ≡ true) (unsaved : s .progress .saved p ≡ false) where
+    late-kept : Inv (recordSaved p s) after h
+    unfolding recordSaved withProgress withSaved
+    late-kept =
+        record {
+          sized = kept .sized;
+          stored = kept .line ∙ i .stored;
+          tag = i .tag;
+          processes =
+              by-index (λ q. q < s .topology .processes
+              → ProcessHolds (i .tag) (s .round .phase) q (processAt (recordSaved p s) after h q)) p
+              (λ l.
+              rw (phase, kept .slots p l, own-slot, upd-same (s .progress .saved) p true)
+              (process-physical is-late marked unsaved (process-in i phase p l)))
+              (λ q o l.
+              rw (kept .slots q l, other-slot q l o, upd-other (s .progress .saved) p q true o) (i .processes q l));
+          channels = λ c l. rw (kept .helds c l, same-held c l) (i .channels c l);
+        }
+
 module _ (s : GlobalState) (st : List ℕ) (h : History) (p : ℕ) (ends : EndsPlanned (s .topology))
     (may : MayCheckpointPhysically s p) (fits : Fits (s .topology) (s .counts)) (i : Inv s st h) where
-  lasts : KeepsBy s st h (PhysicalCheckpoint p) (effect s (PhysicalCheckpoint p))
-  unfolding effect nextLine onStep onAccepted
-  lasts =
-      physical-from s _ h (p + 1) ends
-      (next-after s st h p ends (may .planned) fits i (is-next (s .round .phase) p (may .next)))
+  lasts : Turn s p → KeepsBy s st h (PhysicalCheckpoint p) (effect s (PhysicalCheckpoint p))
+  unfolding effect nextLine afterPhysical onStep onAccepted
+  lasts (early e next) =
+      rw e (early-kept s st h p ends (may .planned) fits i (is-next (s .round .phase) p next))
+  lasts (late e phase marked unsaved) =
+      rw e (late-kept s st h p ends (may .planned) fits i e (is-logical (s .round .phase) phase) marked unsaved)
 
   lost : KeepsLostBy s st h (effect s (PhysicalCheckpoint p))
   unfolding effect physicalWrites writeAll
@@ -144,4 +175,4 @@ module _ (s : GlobalState) (st : List ℕ) (h : History) (p : ℕ) (ends : EndsP
   lost (suc b) l = absurd (omega arith)
 
   pub physical-kept : Keeps s st h (PhysicalCheckpoint p)
-  physical-kept = record { lasts = lasts; lost = lost }
+  physical-kept = record { lasts = lasts (may .turn); lost = lost }

@@ -1,19 +1,22 @@
 -- One process: what each transition makes of its part of the invariant, over plain values.
-use Prim.Native.Nat.{ℕ, _+_, _<_, _≤_}
+use Prim.Native.Nat.{ℕ, _+_, _<_}
 use mathlib.Core.Path.{_≡_, refl, sym, ap, _∙_}
 use mathlib.Core.Bool.{Bool, true, false, not}
 use mathlib.Core.List.{[], _∷_, _++_}
+use mathlib.Core.Option.{none}
 use lib.ListN.{length}
 use native.Mathlib.Omega.{arith}
 use Rattle.model.specs.declared.Phase.{Phase}
 use Rattle.model.specs.declared.Phase.the-variants.{Idle, Physical, Logical}
 use Rattle.model.specs.declared.Receipt.{Receipt}
-use Rattle.model.specs.Word.{receipt, enter, replay}
-use Rattle.model.proofs.laws.WordLaws.{replay-snoc}
-use Rattle.model.proofs.laws.HistoryLaws.{wordOf, before, marked, before-end, sentOn, receivedOn}
-use Rattle.model.proofs.laws.HistoryLaws.{word-sent, word-received}
+use Rattle.model.specs.Word.{receipt, enter, replay, leave, undoBy}
+use Rattle.model.specs.Form as form
+use Rattle.model.proofs.laws.Tests.{true-is-not-false}
+use Rattle.model.proofs.laws.WordLaws.{modulus, replay-snoc, undo-snoc, leave-enter}
+use Rattle.model.proofs.laws.HistoryLaws.{wordOf, before, Marked, marked, before-end, sentOn, receivedOn}
+use Rattle.model.proofs.laws.HistoryLaws.{word-sent, word-received, history-bounded}
 use Rattle.model.proofs.line.Values.{Book, Slot, Process}
-use Rattle.model.proofs.line.Invariant.{tagged, ProcessIn, ProcessHolds}
+use Rattle.model.proofs.line.Invariant.{tagged, lateUnsaved, physicalNow, ProcessIn, ProcessHolds}
 use Rattle.model.proofs.line.Books.{longer, markedBook, Whole, whole, no-mark, one-longer, marked-longer}
 use Rattle.model.proofs.line.Books.{before-longer, line-longer, mark-longer}
 
@@ -21,9 +24,11 @@ use Rattle.model.proofs.line.Books.{before-longer, line-longer, mark-lo
 abbrev pub withBook : Book → Process → Process
 withBook k v =
     record {
+      late = v .late;
       word = v .word;
       tag = v .tag;
       logical = v .logical;
+      saved = v .saved;
       count = v .count;
       book = k;
       finished = v .finished;
@@ -35,9 +40,11 @@ withBook k v =
 abbrev pub receiving : ℕ → ℕ → ℕ → Slot → Process → Process
 receiving c b count slot v =
     record {
+      late = v .late;
       word = enter (v .word) (receipt c b);
       tag = v .tag;
       logical = v .logical;
+      saved = v .saved;
       count = count;
       book = longer (receivedOn c b) (v .book);
       finished = v .finished;
@@ -47,19 +54,37 @@ receiving c b count slot v =
 -- the pending slot with one more entry in the message log
 abbrev pub loggedSlot : Receipt → Process → Slot
 loggedSlot r v =
-    record { copy = v .pending .copy; receipts = v .pending .receipts ++ (r ∷ []); count = v .count + 1 }
+    record { physical = v .pending .physical; receipts = v .pending .receipts ++ (r ∷ []); count = v .count + 1 }
 
 -- after the logical checkpoint: the mark is the end of the history
 abbrev pub atLogical : Process → Process
 atLogical v =
     record {
+      late = v .late;
       word = v .word;
       tag = not (v .tag);
       logical = true;
+      saved = v .saved;
       count = v .count;
       book = markedBook (v .book);
       finished = v .finished;
       pending = v .pending;
+    }
+
+-- after the physical checkpoint of a late one: the pending slot has its word
+abbrev pub atPhysical : Process → Process
+atPhysical v =
+    record {
+      late = v .late;
+      word = v .word;
+      tag = v .tag;
+      logical = v .logical;
+      saved = true;
+      count = v .count;
+      book = v .book;
+      finished = v .finished;
+      pending =
+          record { physical = v .word; receipts = v .pending .receipts; count = v .pending .count };
     }
 
 -- its tag, by the phase
@@ -77,6 +102,7 @@ module _ {t : Bool} {p : ℕ} {v : Process} where
   -- a send: its word stays
   pub process-sent : (ph : Phase) (c b : ℕ) → ProcessHolds t ph p v
       → ProcessHolds t ph p (withBook (longer (sentOn c b) (v .book)) v)
+  unfolding physicalNow
   process-sent ph c b i =
       record {
         now = i .now ∙ sym (word-sent (v .book .events) c b);
@@ -94,6 +120,7 @@ module _ {t : Bool} {p : ℕ} {v : Process} where
             plain = record { tag = r .plain .tag; mark = r .plain .mark };
             saved = r .saved;
             waiting = r .waiting;
+            unlogged = r .unlogged;
             counted = r .counted;
           }
       round Logical w r =
@@ -101,6 +128,7 @@ module _ {t : Bool} {p : ℕ} {v : Process} where
             tag = r .tag;
             mark = marked-longer _ (one-longer (v .book .events) (sentOn c b)) (r .mark);
             saved = r .saved ∙ sym (mark-longer wordOf (v .book) (sentOn c b) w (word-sent (v .book .events) c b));
+            untouched = r .untouched;
             counted = r .counted;
           }
 
@@ -116,69 +144,120 @@ module _ {t : Bool} {p : ℕ} {v : Process} where
         round = round;
       }
 
-  -- idle; in the physical phase, not saved yet, or saved and logged
   pub received-idle : (c b : ℕ) → ProcessHolds t Idle p v
       → ProcessHolds t Idle p (receiving c b (v .count) (v .pending) v)
   received-idle c b i = process-received Idle c b _ _ i (record { tag = i .round .tag; mark = i .round .mark })
 
-  pub received-waiting : (next c b : ℕ) → next ≤ p → ProcessHolds t (Physical next) p v
+  -- in the physical phase: one that isn't saved, and one that is
+  pub received-waiting : (next c b : ℕ) → (v .late ≡ false → p < next → ⊥) → ProcessHolds t (Physical next) p v
       → ProcessHolds t (Physical next) p (receiving c b (v .count) (v .pending) v)
-  received-waiting next c b l i =
+  received-waiting next c b unsaved i =
       process-received (Physical next) c b _ _ i
       (record {
         plain = record { tag = i .round .plain .tag; mark = i .round .plain .mark };
-        saved = λ k. absurd (omega arith);
+        saved = λ e k. absurd (unsaved e k);
         waiting = i .round .waiting;
+        unlogged = i .round .unlogged;
         counted = i .round .counted;
       })
 
-  pub received-saved : (next c b : ℕ) → p < next → ProcessHolds t (Physical next) p v
+  pub received-saved : (next c b : ℕ) → v .late ≡ false → p < next → ProcessHolds t (Physical next) p v
       → ProcessHolds t (Physical next) p (receiving c b (v .count + 1) (loggedSlot (receipt c b) v) v)
-  received-saved next c b l i =
+  received-saved next c b early l i =
       process-received (Physical next) c b _ _ i
       (record {
         plain = record { tag = i .round .plain .tag; mark = i .round .plain .mark };
-        saved = λ k.
-            replay-snoc enter (v .pending .copy) (v .pending .receipts) (receipt c b)
-            ∙ ap (λ (w : ℕ). enter w (receipt c b)) (i .round .saved k);
+        saved = λ e k.
+            replay-snoc enter (v .pending .physical) (v .pending .receipts) (receipt c b)
+            ∙ ap (λ (w : ℕ). enter w (receipt c b)) (i .round .saved e k);
         waiting = λ k. absurd (omega arith);
+        unlogged = λ e. true-is-not-false e early;
         counted = refl;
       })
 
-  -- in the logical phase, before its logical checkpoint and logged, or after it
-  pub received-before : (c b : ℕ) → v .logical ≡ false → ProcessHolds t Logical p v
-      → ProcessHolds t Logical p (receiving c b (v .count + 1) (loggedSlot (receipt c b) v) v)
-  unfolding before
-  received-before c b e i =
-      let none-yet = no-mark (i .round .mark) e in
-      let as-now : replay (v .pending .copy) (v .pending .receipts) ≡ wordOf (v .book .events) =
-      rw none-yet at (i .round .saved) in
-      process-received Logical c b _ _ i
-      (record {
-        tag = i .round .tag;
-        mark = marked-longer _ (one-longer (v .book .events) (receivedOn c b)) (i .round .mark);
-        saved =
-            replay-snoc enter (v .pending .copy) (v .pending .receipts) (receipt c b)
-            ∙ ap (λ (w : ℕ). enter w (receipt c b)) as-now
-            ∙ rw none-yet (sym (word-received (v .book .events) c b));
-        counted = refl;
-      })
+  -- in the logical phase, before its logical checkpoint: an early one, which logs it, and a late one, which doesn't
+  module _ (c b : ℕ) (e : v .logical ≡ false) (i : ProcessHolds t Logical p v) where
+    no-mark-yet : v .book .mark ≡ none
+    no-mark-yet = no-mark (i .round .mark) e
 
-  pub received-after : (c b : ℕ) → v .logical ≡ true → ProcessHolds t Logical p v
-      → ProcessHolds t Logical p (receiving c b (v .count) (v .pending) v)
-  received-after c b e i =
-      process-received Logical c b _ _ i
-      (record {
-        tag = i .round .tag;
-        mark = marked-longer _ (one-longer (v .book .events) (receivedOn c b)) (i .round .mark);
-        saved =
-            i .round .saved
-            ∙ ap wordOf (sym (before-longer (v .book .events) (receivedOn c b) refl (i .round .mark) e));
-        counted = i .round .counted;
-      })
+    still-marked : Marked (length (v .book .events ++ (receivedOn c b ∷ []))) (v .logical) (v .book .mark)
+    still-marked = marked-longer _ (one-longer (v .book .events) (receivedOn c b)) (i .round .mark)
 
+    pub received-before : v .late ≡ false
+        → ProcessHolds t Logical p (receiving c b (v .count + 1) (loggedSlot (receipt c b) v) v)
+    unfolding before physicalNow form.restore form.restoreBy
+    received-before early =
+        let as-now : replay (v .pending .physical) (v .pending .receipts) ≡ wordOf (v .book .events) =
+        rw (no-mark-yet, early) at (i .round .saved) in
+        process-received Logical c b _ _ i
+        (record {
+          tag = i .round .tag;
+          mark = still-marked;
+          saved =
+              rw (no-mark-yet, early)
+              (replay-snoc enter (v .pending .physical) (v .pending .receipts) (receipt c b)
+              ∙ ap (λ (w : ℕ). enter w (receipt c b)) as-now ∙ sym (word-received (v .book .events) c b));
+          untouched = λ late k. true-is-not-false late early;
+          counted = refl;
+        })
+
+    pub received-unlogged : v .late ≡ true → ProcessHolds t Logical p (receiving c b (v .count) (v .pending) v)
+    unfolding before physicalNow form.restore form.restoreBy undoBy
+    received-unlogged late =
+        let (empty, unsaved) = i .round .untouched late e in
+        process-received Logical c b _ _ i
+        (record {
+          tag = i .round .tag;
+          mark = still-marked;
+          saved =
+              rw (no-mark-yet, late, unsaved, empty)
+              (ap (λ (w : ℕ). enter w (receipt c b)) (i .now) ∙ sym (word-received (v .book .events) c b));
+          untouched = i .round .untouched;
+          counted = i .round .counted;
+        })
+
+  -- after it: one with a physical checkpoint, and one without, which logs the anti-message
+  module _ (c b : ℕ) (e : v .logical ≡ true) (i : ProcessHolds t Logical p v) where
+    same-before : wordOf (before (v .book .mark) (v .book .events))
+        ≡ wordOf (before (v .book .mark) (v .book .events ++ (receivedOn c b ∷ [])))
+    same-before = ap wordOf (sym (before-longer (v .book .events) (receivedOn c b) refl (i .round .mark) e))
+
+    pub received-after : lateUnsaved v ≡ false → ProcessHolds t Logical p (receiving c b (v .count) (v .pending) v)
+    unfolding physicalNow
+    received-after has-one =
+        process-received Logical c b _ _ i
+        (record {
+          tag = i .round .tag;
+          mark = marked-longer _ (one-longer (v .book .events) (receivedOn c b)) (i .round .mark);
+          saved = rw has-one (rw has-one at (i .round .saved) ∙ same-before);
+          untouched = λ late k. true-is-not-false e k;
+          counted = i .round .counted;
+        })
+
+    pub received-anti : v .late ≡ true → v .saved ≡ false
+        → ProcessHolds t Logical p (receiving c b (v .count + 1) (loggedSlot (receipt c b) v) v)
+    unfolding physicalNow form.restore form.restoreBy
+    received-anti late unsaved =
+        let r : Receipt = receipt c b in
+        let bounded : v .word < modulus = rw (i .now) (history-bounded (v .book .events)) in
+        let as-now : undoBy leave (v .word) (v .pending .receipts) ≡ wordOf (before (v .book .mark) (v .book .events)) =
+        rw (late, unsaved) at (i .round .saved) in
+        process-received Logical c b _ _ i
+        (record {
+          tag = i .round .tag;
+          mark = marked-longer _ (one-longer (v .book .events) (receivedOn c b)) (i .round .mark);
+          saved =
+              rw (late, unsaved)
+              (undo-snoc leave (enter (v .word) r) (v .pending .receipts) r
+              ∙ ap (λ (w : ℕ). undoBy leave w (v .pending .receipts)) (leave-enter (v .word) r bounded)
+              ∙ as-now ∙ same-before);
+          untouched = λ l k. true-is-not-false e k;
+          counted = refl;
+        })
+
+  -- the logical checkpoint, and the physical checkpoint of a late one
   pub process-logical : v .logical ≡ false → ProcessHolds t Logical p v → ProcessHolds t Logical p (atLogical v)
-  unfolding tagged before
+  unfolding tagged before physicalNow
   process-logical e i =
       record {
         now = i .now;
@@ -191,6 +270,26 @@ module _ {t : Bool} {p : ℕ} {v : Process} where
               mark = marked {m = length (v .book .events)} (omega arith);
               saved =
                   i .round .saved ∙ rw (no-mark (i .round .mark) e) (ap wordOf (sym (before-end (v .book .events))));
+              untouched = λ late k. true-is-not-false refl k;
+              counted = i .round .counted;
+            };
+      }
+
+  pub process-physical : v .late ≡ true → v .logical ≡ true → v .saved ≡ false → ProcessHolds t Logical p v
+      → ProcessHolds t Logical p (atPhysical v)
+  unfolding physicalNow
+  process-physical late e unsaved i =
+      record {
+        now = i .now;
+        within = i .within;
+        finished = i .finished;
+        fits = i .fits;
+        round =
+            record {
+              tag = i .round .tag;
+              mark = i .round .mark;
+              saved = rw late (rw (late, unsaved) at (i .round .saved));
+              untouched = λ l k. true-is-not-false e k;
               counted = i .round .counted;
             };
       }

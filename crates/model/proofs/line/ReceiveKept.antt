@@ -2,10 +2,10 @@
 -- checkpoint, and whether the message is old (it has the tag from before the round's logical checkpoints) or new.
 use Prim.Native.Nat.{ℕ, _+_, _<_}
 use mathlib.Core.Path.{_≡_, refl, sym, ap, subst, _∙_}
-use mathlib.Core.Bool.{Bool, true, false, not, Bool·beq, Bool·not-not}
+use mathlib.Core.Bool.{Bool, true, false, not, _&&_, Bool·beq, Bool·not-not}
 use mathlib.Core.List.{List, [], _∷_}
 use lib.Dec.{ltb}
-use borrow.Author.Tests.{leb-false, ltb-true, ltb-false}
+use borrow.Author.Tests.{leb-false, ltb-true, lt-ltb, not-true}
 use native.Mathlib.Omega.{arith}
 use Rattle.model.specs.declared.Phase.{Phase}
 use Rattle.model.specs.declared.Phase.the-variants.{Idle, Physical, Logical}
@@ -13,7 +13,7 @@ use Rattle.model.specs.declared.Entry.{Entry}
 use Rattle.model.specs.declared.Entry.the-variants.{Message, Marker}
 use Rattle.model.specs.declared.Step.the-variants.{Receive}
 use Rattle.model.specs.Word.{receipt}
-use Rattle.model.specs.Topology.{receiver}
+use Rattle.model.specs.Topology.{receiver, isLate}
 use Rattle.model.specs.Channel.{noEntry}
 use Rattle.model.specs.Layout.{Log, messageLog, channelLog}
 use Rattle.model.specs.State.{GlobalState, raisedAll}
@@ -25,42 +25,28 @@ use Rattle.model.specs.Step.{effect, receive, reaction, firstReaction, r
 use Rattle.model.specs.Step.{nextLine}
 use Rattle.model.specs.History.{History, received, markNow, markUnmarked, addEvent, onStep, onAccepted, onReceive}
 use Rattle.model.specs.History.{onMessage}
-use Rattle.model.proofs.laws.Tests.{true-is-not-false, or-left, Tested, holds, fails, test, beq-same}
-use Rattle.model.proofs.laws.Tests.{beq-other}
+use Rattle.model.proofs.laws.Tests.{true-is-not-false, and-left, and-right, and-both, or-left, Tested, holds}
+use Rattle.model.proofs.laws.Tests.{fails, test, beq-same, beq-other}
 use Rattle.model.proofs.laws.Functions.{upd-same}
 use Rattle.model.proofs.laws.SoundLaws.{Fits}
+use Rattle.model.proofs.laws.ReceiveLaws.{marked-logs, unmarked-logs}
 use Rattle.model.proofs.laws.HistoryLaws.{receivedOn}
 use Rattle.model.proofs.line.ChannelState.{new-sender}
 use Rattle.model.proofs.line.Values.{Process, Channel, Seen, processAt, channelAt, bookOf, seenOf}
 use Rattle.model.proofs.line.Invariant.{tagged, EndsPlanned, Inv, Keeps}
 use Rattle.model.proofs.line.Books.{longer, no-mark}
 use Rattle.model.proofs.line.ProcessState.{receiving, loggedSlot, received-idle, received-waiting}
-use Rattle.model.proofs.line.ProcessState.{received-saved, received-before, received-after}
-use Rattle.model.proofs.line.ChannelKept.{leaving, loggedHeld, left-idle, left-physical, left-before, left-new}
-use Rattle.model.proofs.line.ChannelKept.{left-logged}
+use Rattle.model.proofs.line.ProcessState.{received-saved, received-before, received-unlogged}
+use Rattle.model.proofs.line.ChannelKept.{leaving, left-idle, left-physical, left-before}
 use Rattle.model.proofs.line.Phases.{process-in, channel-in}
 use Rattle.model.proofs.line.ReceiveHistory.{on-early, on-late, stays-marked, on-marked, on-unmarked}
 use Rattle.model.proofs.line.ReceiveHistory.{old-is-early, new-is-late}
 use Rattle.model.proofs.line.LogicalKept.{logical-kept, logical-tag}
 use Rattle.model.proofs.line.LogFrames.{log-lost-kept}
-use Rattle.model.proofs.line.MessageKept.{receiveBy, Both, Receives, Leaves, Logged, LostOn, unlogged}
-use Rattle.model.proofs.line.MessageKept.{message-alone, channel-alone}
+use Rattle.model.proofs.line.MessageKept.{receiveBy, Both, Receives, Leaves, unlogged, message-alone}
+use Rattle.model.proofs.line.MarkedReceives.{lateUnsavedIn, Logged, LostOn, antiLogs, anti-lost, new-received}
+use Rattle.model.proofs.line.MarkedReceives.{old-received, old-lost}
 use Rattle.model.proofs.line.MarkerReceived.{no-marker, marker-received}
-
--- a new message, with a receiver that has its logical checkpoint
-new-received : (s : GlobalState) (st : List ℕ) (h : History) (i : Inv s st h) (ends : EndsPlanned (s .topology))
-    (c b : ℕ) (u : Bool) (es : List Entry) (l : c < s .topology .channels) → s .round .phase ≡ Logical
-    → s .progress .logical (receiver (s .topology) c) ≡ true → u ≡ not (i .tag) → s .channel c ≡ Message b u ∷ es
-    → Inv (enterMessage c (receiver (s .topology) c) (Message b u) (setEntries c es (withCounts (s .counts) s))) st
-    (addEvent (receiver (s .topology) c) (receivedOn c b) h)
-new-received s st h i ends c b u es l phase flag new first =
-    let r : ℕ = receiver (s .topology) c in
-    let process = process-in i phase r (ends c l .1) in
-    unlogged s st h i ends c b u es l (rw phase (received-after c b flag process))
-    (rw phase
-    (left-new (i .tag) r (processAt s st h r) (channelAt s st h c) c b u es first refl process refl
-    (channel-in i phase c l)
-    flag new))
 
 module _ (s : GlobalState) (st : List ℕ) (h : History) (c : ℕ) (l : c < s .topology .channels)
     (ends : EndsPlanned (s .topology))
@@ -91,8 +77,8 @@ module _ (s : GlobalState) (st : List ℕ) (h : History) (c : ℕ) (l : c < s .t
     -- a message that gives no logical checkpoint: it goes into these logs
     into : (logs : List Log) → reaction s c (Message b u) ≡ logsOnly logs
         → onMessage (s .topology) c b h ≡ addEvent r (receivedOn c b) h
-        → (anyFull (s .counts) logs ≡ false → Logged s st h i ends c b u es l logs)
-        → (anyFull (s .counts) logs ≡ false → LostOn s st h i ends c b u es l logs)
+        → (anyFull (s .counts) logs ≡ false → Logged s st h i ends fits c b u es l logs)
+        → (anyFull (s .counts) logs ≡ false → LostOn s st h i ends fits c b u es l logs)
         → Kept (reaction s c (Message b u)) (Message b u) es
     unfolding react logsOnly receivedOutcome onStep onAccepted onReceive nextLine
     into logs is told lasts lost =
@@ -119,17 +105,6 @@ module _ (s : GlobalState) (st : List ℕ) (h : History) (c : ℕ) (l : c < s .t
         (λ room. message-alone s st h i ends c b u es l fits (leb-false _ _ (or-left _ _ room)) receives leaves)
         (λ room. log-lost-kept s st h i fits (messageLog r) rl (receipt c b) (leb-false _ _ (or-left _ _ room)))
 
-    into-channel : reaction s c (Message b u) ≡ logsOnly (channelLog c ∷ [])
-        → onMessage (s .topology) c b h ≡ addEvent r (receivedOn c b) h
-        → Receives s st h i ends c b u es l (receiving c b (process .count) (process .pending) process)
-        → Leaves s st h i ends c b u es l (leaving es arrived (channel .count + 1) (loggedHeld b channel) channel)
-        → Kept (reaction s c (Message b u)) (Message b u) es
-    unfolding anyFull raisedAll logsWrites logWrites appendWrites cellWrites
-    into-channel is told receives leaves =
-        into (channelLog c ∷ []) is told
-        (λ room. channel-alone s st h i ends c b u es l fits (leb-false _ _ (or-left _ _ room)) receives leaves)
-        (λ room. log-lost-kept s st h i fits (channelLog c) l (receipt c b) (leb-false _ _ (or-left _ _ room)))
-
     -- the sender has no mark outside the logical phase
     idle : s .round .phase ≡ Idle → Kept (reaction s c (Message b u)) (Message b u) es
     unfolding reaction reactionTo bookOf
@@ -139,60 +114,85 @@ module _ (s : GlobalState) (st : List ℕ) (h : History) (c : ℕ) (l : c < s .t
         (rw phase
         (left-idle (i .tag) r process channel c b u es first refl (process-in i phase r rl) (channel-in i phase c l)))
 
-    physical : (next : ℕ) → s .round .phase ≡ Physical next → Tested (ltb r next)
+    physical : (next : ℕ) → s .round .phase ≡ Physical next → Tested (ltb r next && not (isLate (s .topology) r))
         → Kept (reaction s c (Message b u)) (Message b u) es
     unfolding reaction reactionTo bookOf
     physical next phase (holds e) =
         into-message (rw (phase, e))
         (on-unmarked (s .topology) c b h (process-in i phase _ (ends c l .0) .round .plain .mark))
-        (rw phase (received-saved next c b (ltb-true r next e) (process-in i phase r rl)))
+        (rw phase
+        (received-saved next c b (not-true _ (and-right (ltb r next) _ e)) (ltb-true r next (and-left _ _ e))
+        (process-in i phase r rl)))
         (rw phase
         (left-physical (i .tag) r process channel c b u es first refl next (process-in i phase r rl)
         (channel-in i phase c l)))
     physical next phase (fails e) =
         into-none (rw (phase, e))
         (on-unmarked (s .topology) c b h (process-in i phase _ (ends c l .0) .round .plain .mark))
-        (rw phase (received-waiting next c b (ltb-false r next e) (process-in i phase r rl)))
+        (rw phase
+        (received-waiting next c b
+        (λ early k. true-is-not-false (and-both (ltb r next) _ (lt-ltb r next k) (rw early)) e)
+        (process-in i phase r rl)))
         (rw phase
         (left-physical (i .tag) r process channel c b u es first refl next (process-in i phase r rl)
         (channel-in i phase c l)))
 
-    -- in the logical phase, with a receiver that has its logical checkpoint: a new message, and an old one
     module _ (phase : s .round .phase ≡ Logical) where
       own-tag : (x : Bool) → s .progress .logical r ≡ x → s .tag r ≡ tagged (i .tag) x
       own-tag x e = process-in i phase r rl .round .tag ∙ ap (tagged (i .tag)) e
 
+      unsaved-now : Tested (lateUnsavedIn s r)
+      unsaved-now = test (lateUnsavedIn s r)
+
+      -- with a receiver that has its logical checkpoint: a new message, and an old one
       after : s .progress .logical r ≡ true → Tested (Bool·beq u (s .tag r))
           → Kept (reaction s c (Message b u)) (Message b u) es
       unfolding reaction reactionTo logsOnly bookOf tagged
       after e (holds q) =
-          into-none (rw (phase, e, q)) (on-marked (s .topology) c b h (process-in i phase r rl .round .mark) e)
-          (rw phase (received-after c b e (process-in i phase r rl)))
-          (rw phase
-          (left-new (i .tag) r process channel c b u es first refl (process-in i phase r rl) refl
-          (channel-in i phase c l) e (beq-same _ _ q ∙ own-tag true e)))
+          let new : u ≡ not (i .tag) = beq-same _ _ q ∙ own-tag true e in
+          into (antiLogs s st h i ends fits c b u es l)
+          (rw (phase, e, q, marked-logs (isLate (s .topology) r) (s .progress .saved r)))
+          (on-marked (s .topology) c b h (process-in i phase r rl .round .mark) e)
+          (new-received s st h i ends fits c b u es l phase e first new unsaved-now)
+          (anti-lost s st h i ends fits c b u es l unsaved-now)
       after e (fails q) =
-          into-channel (rw (phase, e, q)) (on-marked (s .topology) c b h (process-in i phase r rl .round .mark) e)
-          (rw phase (received-after c b e (process-in i phase r rl)))
-          (rw phase
-          (left-logged (i .tag) r process channel c b u es first refl (process-in i phase r rl) refl
-          (channel-in i phase c l) e (beq-other _ _ q ∙ ap not (own-tag true e) ∙ Bool·not-not _)))
+          let old : u ≡ i .tag = beq-other _ _ q ∙ ap not (own-tag true e) ∙ Bool·not-not _ in
+          into (channelLog c ∷ antiLogs s st h i ends fits c b u es l)
+          (rw (phase, e, q, marked-logs (isLate (s .topology) r) (s .progress .saved r)))
+          (on-marked (s .topology) c b h (process-in i phase r rl .round .mark) e)
+          (old-received s st h i ends fits c b u es l phase e first old unsaved-now)
+          (old-lost s st h i ends fits c b u es l phase e first old unsaved-now)
 
       -- with one that has none yet: an old message, and a new one, which gives it its logical checkpoint first
-      before-old : s .progress .logical r ≡ false → Bool·beq u (s .tag r) ≡ true
-          → Kept (reaction s c (Message b u)) (Message b u) es
-      unfolding reaction reactionTo logsOnly bookOf seenOf tagged
-      before-old e q =
-          let old : u ≡ i .tag = beq-same _ _ q ∙ own-tag false e in
-          into-message (rw (phase, e, q))
-          (on-early (s .topology) c b h
-          (old-is-early (s .topology) c b h (process-in i phase _ (ends c l .0) .round .mark)
-          (no-mark (process-in i phase r rl .round .mark) e) (rw first at (channel-in i phase c l .round .balanced))
-          old))
-          (rw phase (received-before c b e (process-in i phase r rl)))
-          (rw phase
-          (left-before (i .tag) r process channel c b u es first refl (process-in i phase r rl) refl
-          (channel-in i phase c l) e old))
+      module _ (e : s .progress .logical r ≡ false) (q : Bool·beq u (s .tag r) ≡ true) where
+        old : u ≡ i .tag
+        unfolding tagged
+        old = beq-same _ _ q ∙ own-tag false e
+
+        told-old : onMessage (s .topology) c b h ≡ addEvent r (receivedOn c b) h
+        unfolding bookOf seenOf
+        told-old =
+            on-early (s .topology) c b h
+            (old-is-early (s .topology) c b h (process-in i phase _ (ends c l .0) .round .mark)
+            (no-mark (process-in i phase r rl .round .mark) e) (rw first at (channel-in i phase c l .round .balanced))
+            old)
+
+        leaves-old : Leaves s st h i ends c b u es l (leaving es arrived (channel .count) (channel .pending) channel)
+        leaves-old =
+            rw phase
+            (left-before (i .tag) r process channel c b u es first refl (process-in i phase r rl) refl
+            (channel-in i phase c l) e old)
+
+        before-old : Tested (isLate (s .topology) r) → Kept (reaction s c (Message b u)) (Message b u) es
+        unfolding reaction reactionTo logsOnly
+        before-old (holds late) =
+            into-none
+            (rw (phase, e, q, unmarked-logs (isLate (s .topology) r) (s .progress .saved r), late)) told-old
+            (rw phase (received-unlogged c b e (process-in i phase r rl) late)) leaves-old
+        before-old (fails early) =
+            into-message
+            (rw (phase, e, q, unmarked-logs (isLate (s .topology) r) (s .progress .saved r), early)) told-old
+            (rw phase (received-before c b e (process-in i phase r rl) early)) leaves-old
 
       module _ (e : s .progress .logical r ≡ false) (q : Bool·beq u (s .tag r) ≡ false) where
         new : u ≡ not (i .tag)
@@ -210,30 +210,28 @@ module _ (s : GlobalState) (st : List ℕ) (h : History) (c : ℕ) (l : c < s .t
             (new-sender balanced new) (rw first at (channel-in i phase c l .now)))
             unmarked-yet
 
-        -- the state with the logical checkpoint
-        abbrev saved : GlobalState
-        saved = logicalCheckpoint r s
-
         before-new : Kept (reaction s c (Message b u)) (Message b u) es
-        unfolding reaction reactionTo react raisedAll logsWrites writeAll receivedOutcome onStep onAccepted onReceive
+        unfolding reaction reactionTo react receivedOutcome onStep onAccepted onReceive nextLine
             logicalCheckpoint withTag withProgress withLogical withCounts setEntries withChannel enterMessage
             withWord
         before-new =
-            reacts {x = record { logicalFirst = true; closes = false; logs = [] }} (Message b u) es (rw (phase, e, q))
+            reacts
+            {x = record { logicalFirst = true; closes = false; logs = antiLogs s st h i ends fits c b u es l }}
+            (Message b u) es (rw (phase, e, q, marked-logs (isLate (s .topology) r) (s .progress .saved r)))
             (λ room.
             record {
               lasts =
                   rw told
-                  (new-received saved st (markNow r h) (logical-kept s st h r rl phase e i) ends c b u es l phase
-                  (upd-same (s .progress .logical) r true)
-                  (new ∙ ap not (sym (logical-tag s st h r rl phase e i))) first);
-              lost = λ x k. absurd (omega arith);
+                  (new-received (logicalCheckpoint r s) st (markNow r h) (logical-kept s st h r rl phase e i) ends fits
+                  c b u es l phase (upd-same (s .progress .logical) r true) first
+                  (new ∙ ap not (sym (logical-tag s st h r rl phase e i))) unsaved-now room);
+              lost = anti-lost s st h i ends fits c b u es l unsaved-now room;
             })
 
       message : Tested (s .progress .logical r) → Tested (Bool·beq u (s .tag r))
           → Kept (reaction s c (Message b u)) (Message b u) es
       message (holds e) same-tag = after e same-tag
-      message (fails e) (holds q) = before-old e q
+      message (fails e) (holds q) = before-old e q (test (isLate (s .topology) r))
       message (fails e) (fails q) = before-new e q
 
   -- the marker, which comes in the logical phase alone
@@ -267,7 +265,8 @@ module _ (s : GlobalState) (st : List ℕ) (h : History) (c : ℕ) (l : c < s .t
       → Kept (reaction s c e) e es
   entry Idle phase (Message b u) es first = idle b u es first phase
   entry Idle phase Marker es first = no-marker (i .tag) _ es (sym first ∙ channel-in i phase c l .round)
-  entry (Physical next) phase (Message b u) es first = physical b u es first next phase (test (ltb r next))
+  entry (Physical next) phase (Message b u) es first =
+      physical b u es first next phase (test (ltb r next && not (isLate (s .topology) r)))
   entry (Physical next) phase Marker es first =
       no-marker (i .tag) _ es (sym first ∙ channel-in i phase c l .round .plain)
   entry Logical phase (Message b u) es first =

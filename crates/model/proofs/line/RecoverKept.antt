@@ -13,11 +13,11 @@ use native.Mathlib.Nat.{le-refl}
 use Rattle.model.specs.declared.Topology.{Topology}
 use Rattle.model.specs.Notation.{tabulate}
 use Rattle.model.specs.Check.{firstRefusal}
-use Rattle.model.specs.Word.{replayBy, replay}
-use Rattle.model.specs.Topology.{sender, receiver, hasProcess, hasChannel, topologyRefusal}
+use Rattle.model.specs.Word.{replayBy}
+use Rattle.model.specs.Topology.{sender, receiver, hasProcess, hasChannel, isLate, topologyRefusal}
 use Rattle.model.specs.Channel.{bodies, messages, markerless}
 use Rattle.model.specs.Layout.{present, storeCells, messageLog, channelLog, entriesFrom}
-use Rattle.model.specs.Layout.{logged}
+use Rattle.model.specs.Layout.{restore, logged}
 use Rattle.model.specs.State.{GlobalState, idleState}
 use Rattle.model.specs.Write.{writeAll}
 use Rattle.model.specs.Start.{Startup, startupOr, initialize, initializeRefusal, initializeWrites, storedLine}
@@ -32,6 +32,7 @@ use Rattle.model.proofs.laws.Tests.{and-both}
 use Rattle.model.proofs.laws.Lists.{all-of}
 use Rattle.model.proofs.laws.Calls.{initialize-refusal}
 use Rattle.model.proofs.laws.ChannelLaws.{bodies-messages, messages-markerless}
+use Rattle.model.proofs.laws.WordLaws.{restore-nothing}
 use Rattle.model.proofs.laws.HistoryLaws.{wordOf}
 use Rattle.model.proofs.store.Sizes.{admitted, sized-start, sized-after}
 use Rattle.model.proofs.store.Slots.{Initialized, initialized}
@@ -73,7 +74,7 @@ module _ (s : GlobalState) (st : List ℕ) (h : History) (good : topologyRefusal
     recover-is = rw (not-refused, line-is)
 
     word-is : (p : ℕ) → p < T .processes → recoveredWord T st p ≡ wordOf (shortened h p)
-    unfolding recovery.recoveredWord recovery.restored recovery.restoredBy hasProcess slotOf slotBy bookOf
+    unfolding recovery.recoveredWord recovery.restored hasProcess slotOf slotBy bookOf
     word-is p l = rw (lt-ltb p (T .processes) l, line-is) (i .processes p l .finished)
 
     channel-is : (c : ℕ) → c < T .channels → recoveredChannel T st c ≡ messages false (logged st k c)
@@ -170,9 +171,10 @@ module _ (T : Topology) (store : List ℕ) (accepted : initialize T store .refus
   blank : Initialized T after
   blank = initialized T store (sized-start present T store no-refusal)
 
-  blank-word : (p : ℕ) → p < T .processes → replay (slotOf after 0 p .copy) (slotOf after 0 p .receipts) ≡ 0
-  unfolding slotOf slotBy form.receiptsBy form.entriesBy entriesFrom tabulate replayBy
-  blank-word p l = rw (blank .counts (messageLog p) l) (blank .physical p l)
+  blank-word : (p : ℕ) → p < T .processes
+      → restore (isLate T p) (slotOf after 0 p .physical) (slotOf after 0 p .receipts) ≡ 0
+  unfolding slotOf slotBy form.receiptsBy form.entriesBy entriesFrom tabulate
+  blank-word p l = rw (blank .counts (messageLog p) l) (restore-nothing present (isLate T p) _ ∙ blank .physical p l)
 
   blank-log : (c : ℕ) → c < T .channels → heldOf after 0 c .bodies ≡ []
   unfolding heldOf form.logged form.bodiesBy form.entriesBy entriesFrom tabulate

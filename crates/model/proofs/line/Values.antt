@@ -6,7 +6,7 @@ use mathlib.Core.Option.{Option}
 use lib.ListN.{take}
 use Rattle.model.specs.declared.Entry.{Entry}
 use Rattle.model.specs.declared.Receipt.{Receipt}
-use Rattle.model.specs.Topology.{sender, receiver}
+use Rattle.model.specs.Topology.{sender, receiver, isLate}
 use Rattle.model.specs.Layout.{cell, physicalCell, messageLog, channelLog, countCell, receiptsBy, bodiesBy}
 use Rattle.model.specs.Layout.{logged}
 use Rattle.model.specs.State.{GlobalState}
@@ -22,16 +22,18 @@ pub record Book : Type 0 where
 -- what a slot holds of a process: its physical checkpoint, the receipts of its message log, and how many it says that
 -- they are
 pub record Slot : Type 0 where
-  pub copy : ℕ
+  pub physical : ℕ
   pub receipts : List Receipt
   pub count : ℕ
 
--- A process: its word, tag and progress, how many entries its message log has by the state, its book, and the two
--- slots. The pending slot is read with the state's count.
+-- A process: whether it is late, its word, tag and progress, how many entries its message log has by the state, its
+-- book, and the two slots. The pending slot is read with the state's count.
 pub record Process : Type 0 where
+  pub late : Bool
   pub word : ℕ
   pub tag : Bool
   pub logical : Bool
+  pub saved : Bool
   pub count : ℕ
   pub book : Book
   pub finished : Slot
@@ -78,7 +80,7 @@ seenOf d c k =
 unfoldable pub slotBy : List ℕ → ℕ → ℕ → ℕ → Slot
 slotBy st n k p =
     record {
-      copy = cell st (physicalCell n p);
+      physical = cell st (physicalCell n p);
       receipts = receiptsBy st n p k;
       count = cell st (countCell n (messageLog p));
     }
@@ -96,9 +98,11 @@ module _ (s : GlobalState) (st : List ℕ) (h : History) where
   abbrev pub processAt : ℕ → Process
   processAt p =
       record {
+        late = isLate (s .topology) p;
         word = s .word p;
         tag = s .tag p;
         logical = s .progress .logical p;
+        saved = s .progress .saved p;
         count = s .counts .messages p;
         book = bookOf h p;
         finished = slotOf st (s .round .line) p;

@@ -147,10 +147,14 @@ module _ (st : List ℕ) (at count : ℕ) (entry : List ℕ) where
         past-count a (λ e. omega (arith, b .from))
         ∙ cells-outside st first entry a (λ c. omega (arith, b .to, c .from))
 
+    -- the entries that were there stay
+    pub append-behind : entriesFrom after w at count ≡ entriesFrom st w at count
+    append-behind = entries-same st after w at count earlier
+
     pub appends : entriesFrom after w at (count + 1) ≡ entriesFrom st w at count ++ (entry ∷ [])
     unfolding entriesFrom
     appends =
         tabulate-more count (λ i. cellsFrom after w (entryCell w at i))
-        ∙ ap₂ (λ (es : List (List ℕ)) (e : List ℕ). es ++ (e ∷ [])) (entries-same st after w at count earlier)
+        ∙ ap₂ (λ (es : List (List ℕ)) (e : List ℕ). es ++ (e ∷ [])) append-behind
         (cells-same (writeAll st cells) after w first (λ a b. past-count a (λ e. omega (arith, b .from)))
         ∙ cells-written st first entry inside)

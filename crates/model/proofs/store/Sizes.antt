@@ -28,7 +28,7 @@ sized-topology F T st e l =
     let fit = accepted-sizes T e in record { processes = fit .processes; channels = fit .channels; cells = l }
 
 module _ (F : Form) where
-  -- what refusals 1 to 6 leave: the topology is accepted, and the store is long enough
+  -- what refusals 1 to 5, 19 and 6 leave: the topology is accepted, and the store is long enough
   pub admitted : (T : Topology) (cells : ℕ) → initializeRefusal F T cells ≡ none
       → (topologyRefusal T ≡ none) × (storeCells F ≤ cells)
   unfolding initializeRefusal

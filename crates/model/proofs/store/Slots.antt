@@ -16,7 +16,7 @@ use Rattle.model.specs.Form as form
 use Rattle.model.proofs.laws.TopologyLaws.{Planned}
 use Rattle.model.proofs.store.Writes.{Each, each-take, each-append, each-map, written, kept, zeroInto, zeroed}
 use Rattle.model.proofs.store.Entries.{entry-ends, Between, entries-same, cells-into, append-counts, appends}
-use Rattle.model.proofs.store.Entries.{append-lost}
+use Rattle.model.proofs.store.Entries.{append-behind, append-lost}
 use Rattle.model.proofs.store.Sizes.{Sized}
 use Rattle.model.proofs.store.Addresses.{Within, placeAt, Upto, Of, upto-more, other-within, line-outside}
 use Rattle.model.proofs.store.Addresses.{one-physical, line-in-store, in-store, physical-within, log-within}
@@ -201,6 +201,13 @@ module _ (T : Topology) (st : List ℕ) (sized : Sized present T st) where
     log-appended =
         subst (λ (w : ℕ). entriesFrom after w at (count + 1) ≡ entriesFrom st w at count ++ (entry ∷ []))
         (entry-length log r) (appends st at count entry inside)
+
+    -- what stood in it stands there
+    pub log-behind : entriesBy after n log count ≡ entriesBy st n log count
+    unfolding form.entriesBy logWrites
+    log-behind =
+        subst (λ (w : ℕ). entriesFrom after w at count ≡ entriesFrom st w at count) (entry-length log r)
+        (append-behind st at count entry inside)
 
     -- power lost before the count is written: the entry that may be there is behind those that are read
     pub log-lost : (b : ℕ) → b < length (logWrites n log count r)

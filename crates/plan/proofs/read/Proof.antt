@@ -1,4 +1,4 @@
--- `read` meets its contract: the shape is refused, 3 to 5 are, or the plan passes.
+-- `read` meets its contract: the shape is refused, 3 to 5 or 19 are, or the plan passes.
 use borrow.Author.Needs.{needs}
 use mathlib.Core.Path.{sym, ap, _∙_}
 use mathlib.Core.Option.{orElse}

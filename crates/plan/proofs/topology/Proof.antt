@@ -12,12 +12,13 @@ known c = whole (c .args .bytes .now) (c .pre)
 returns : tie.Need-returns
 unfolding planOf
 returns c =
-    let to = c .before .before in
-    rw (to .before .ends .ensures, to .ends2 .ensures)
+    let late = c .before .before in
+    let to = late .before in
+    rw (to .before .ends .ensures, to .ends2 .ensures, late .late-map .ensures)
 
 pub topology-spec : {M : Type 1} → statement M
 topology-spec =
     tie.close
-    (tie.spec (λ c κs. search needs) (λ c κs. search needs)
-    (λ c. omega (arith, known (c .before .before .before .before)))
-    (λ c. omega (arith, known (c .before .before .before .before .before))) returns)
+    (tie.spec (λ c κs. search needs) (λ c κs. search needs) (λ c κs. search needs)
+    (λ c. omega (arith, known (c .before .before .before .before .before)))
+    (λ c. omega (arith, known (c .before .before .before .before .before .before))) returns)

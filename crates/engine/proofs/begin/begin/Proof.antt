@@ -1,30 +1,24 @@
 -- `engine::begin::begin` meets its contract: refused where no round may begin, else the logs' counts are cleared and
 -- the physical phase starts.
 use Prim.Native.Nat.{_+_}
-use mathlib.Core.Path.{_≡_, sym, refl, ap, ap₂, _∙_}
-use mathlib.Core.Bool.{Bool, true, false, cond}
+use mathlib.Core.Path.{_≡_, sym, refl, _∙_}
+use mathlib.Core.Bool.{true, false}
 use mathlib.Core.Option.{none, some}
 use native.Mathlib.Omega.{arith}
 use borrow.Author.Needs.{needs}
 use borrow.Author.Tests.{eq-eqb, ne-eqb, not-true, not-false}
 use lib.ListN.{length}
-use Rattle.model.specs.declared.Phase.{Phase}
-use Rattle.model.specs.declared.Round.{Round}
 use Rattle.model.specs.declared.Step.the-variants.{Begin}
 use Rattle.model.specs.Check.{firstRefusal}
 use Rattle.model.specs.Phase.{isIdle}
-use Rattle.model.specs.State.{GlobalState, Progress, noProgress, noCounts}
+use Rattle.model.specs.State.{GlobalState}
 use Rattle.model.specs.Sound.{lastLine}
 use Rattle.model.specs.Write.{clearWrites}
-use Rattle.model.specs.Change.{inPhase, withRound, withProgress, withCounts}
 use Rattle.model.specs.Step.{priorChecks, roomChecks, logChecks, ownChecks, nextLine, effect}
 use Rattle.engine.specs.declared.spot.Spot.{Spot}
-use Rattle.engine.specs.Spots.{Sees, putBack, sized}
+use Rattle.engine.specs.Spots.{Sees, sized}
 use Rattle.engine.proofs.Clearing.{clear-length}
-use Rattle.engine.proofs.Views.{same-state}
-use Rattle.engine.proofs.Turning.{turns-refused, turns-lost, turns-done, same-result, seen-sizes}
-use Rattle.engine.proofs.Turning.{same-word, same-tag, same-channel, same-progress}
-use Rattle.engine.proofs.Phases.{goes-on}
+use Rattle.engine.proofs.Turning.{turns-refused, turns-lost, turns-from, same-result, seen-sizes}
 use Rattle.engine.proofs.begin.begin.Statement.{statement}
 use Rattle.engine.proofs.begin.begin.Tie as tie
 
@@ -91,25 +85,17 @@ returns-3 c =
     (c .stopped .ensures)
 
 returns-4 : tie.Need-returns-4
-unfolding effect inPhase withRound withProgress withCounts putBack
+unfolding effect
 returns-4 c =
-    let f = c .before in
-    let d = f .before in
+    let d = c .before in
     let p = d .before .before .before .before .before in
-    let next : Phase = f .phase-from .result in
-    turns-done _ _ _ _ (may p) _ _ (p .clear .ensures .store) _ refl (sym (many p)) refl (rw (many p) (d .if3 .left))
-    (λ g v. same-result refl
-    (goes-on 0 (withCounts noCounts g) (v .processes) (f .phase-from .ensures)
-    ∙ same-state refl (ap (λ (r : Round). record { line = r .line; phase = next }) (v .round)) (sym (same-word v))
-    (sym (same-tag v)) (sym (same-channel v))
-    (ap₂ (λ (b : Bool) (x : Progress). cond b noProgress x) (sym (c .is-logical .ensures)) (sym (same-progress v)))
-    refl)
-    (writes (s p) g v))
+    turns-from _ _ _ _ (may p) _ _ (p .clear .ensures .store) (c .physical-from .ensures) (sym (many p))
+    (rw (many p) (d .if3 .left)) (λ g v. same-result refl refl (writes (s p) g v))
 
 pub begin-spec : {M : Type 1} → statement M
 begin-spec =
     tie.close
     (tie.spec (λ c κs. search needs) (λ c κs. search needs) returns (λ c κs. search needs) returns-2
     (λ c. omega (arith, c .before .before .if2 .left)) clear-requires (λ c. search needs) (λ c. search needs)
-    (λ c. search needs) (λ c κs. search needs) (λ c. search needs) returns-3 (λ c κs. search needs)
-    (λ c κs. search needs) (λ c. search needs) returns-4)
+    (λ c. search needs) (λ c κs. search needs) (λ c. search needs) returns-3 (λ c κs. search needs) (λ c. search needs)
+    returns-4)

@@ -44,7 +44,7 @@ busy Logical e = refl
 module _ (s : Spot) (g : GlobalState) (v : Sees g Commit s) where
   decided : mayCommit g ≡ may s
   unfolding mayCommit
-  decided = and-assoc (isLogical (g .round .phase)) _ _ ∙ rw (v .round, v .through)
+  decided = and-assoc (isLogical (g .round .phase)) _ _ ∙ rw (v .through, v .round)
 
   checks : firstRefusal (ownChecks g Commit) ≡ cond (not (may s)) (some 12) none
   unfolding ownChecks priorChecks roomChecks logChecks firstRefusal

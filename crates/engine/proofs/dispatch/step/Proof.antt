@@ -58,14 +58,14 @@ module _ (k : tie.After-known-told) where
 
 -- the spot is read
 abbrev at : tie.After-held → tie.After-known-told
-at h = h .before .before .before .before .before .before .before .before
+at h = h .before .before .before .before .before .before .before
 
 read-requires : tie.Need-read-requires
-read-requires c κs = inside (at (c .before .before .before))
+read-requires c κs = inside (at (c .before .before .before .before))
 
 module _ (r : tie.After-read) where
   abbrev held : tie.After-held
-  held = r .before .before .before .before
+  held = r .before .before .before .before .before
 
   abbrev there : tie.After-known-told
   there = at held
@@ -119,8 +119,11 @@ module _ (b : tie.After-channel-count) where
   abbrev closed : tie.After-channel-flag
   closed = sent .before .before
 
+  abbrev saved : tie.After-process-flag3
+  saved = closed .before .before
+
   abbrev logical : tie.After-process-flag2
-  logical = closed .before .before
+  logical = saved .before .before
 
   abbrev tags : tie.After-process-flag
   tags = logical .before .before
@@ -137,6 +140,7 @@ module _ (b : tie.After-channel-count) where
   changed : Rewritten (s (here made)) (subject (here made)) (came made) (tags .process-flag .last .0)
       (record {
         logical = logical .process-flag2 .last .0;
+        saved = saved .process-flag3 .last .0;
         closed = closed .channel-flag .last .0;
         sent = sent .channel-flag2 .last .0;
       })
@@ -145,6 +149,7 @@ module _ (b : tie.After-channel-count) where
       record {
         tags = tags .process-flag .ensures;
         logical = logical .process-flag2 .ensures;
+        saved = saved .process-flag3 .ensures;
         closed = closed .channel-flag .ensures;
         sent = sent .channel-flag2 .ensures;
         messages = messages .process-count .ensures;
@@ -181,8 +186,8 @@ accepted c =
     (not-false _ (goes b .if1 .left)) (written-back (c .before)) (c .answered2 .ensures)
 
 -- the subject, where an array is read, and before each of them is written
-abbrev reading : tie.After-counts → tie.After-known-told
-reading c = c .before .before .before .before .before
+abbrev reading : tie.After-logs → tie.After-known-told
+reading c = c .before .before .before .before
 
 abbrev writing : tie.After-next → tie.After-known-told
 writing n = here (n .before .before .before .before)
@@ -193,8 +198,11 @@ tagged c = writing (c .before .before)
 abbrev marked : tie.After-process-flag2 → tie.After-known-told
 marked c = tagged (c .before .before)
 
+abbrev copied : tie.After-process-flag3 → tie.After-known-told
+copied c = marked (c .before .before)
+
 abbrev shut : tie.After-channel-flag → tie.After-known-told
-shut c = marked (c .before .before)
+shut c = copied (c .before .before)
 
 abbrev noted : tie.After-channel-flag2 → tie.After-known-told
 noted c = shut (c .before .before)
@@ -233,12 +241,13 @@ step-spec =
     let index-word : tie.Need-element-write-state = λ c. inside (writing c) .process in
     let index-tag : tie.Need-process-flag-requires = λ c κs. inside (writing (c .before)) .process in
     let index-logical : tie.Need-process-flag-requires-2 = λ c κs. inside (tagged (c .before)) .process in
-    let index-closed : tie.Need-channel-flag-requires = λ c κs. inside (marked (c .before)) .channel in
+    let index-saved : tie.Need-process-flag-requires-3 = λ c κs. inside (marked (c .before)) .process in
+    let index-closed : tie.Need-channel-flag-requires = λ c κs. inside (copied (c .before)) .channel in
     let index-sent : tie.Need-channel-flag-requires-2 = λ c κs. inside (shut (c .before)) .channel in
     let index-messages : tie.Need-process-count-requires = λ c κs. inside (noted (c .before)) .process in
     let index-channels : tie.Need-channel-count-requires = λ c κs. inside (counted (c .before)) .channel in
     let places-requires : tie.Need-places-requires = λ c κs. search needs in
-    let offset-channel : tie.Need-mul-t55 = λ c. omega (arith, inside (putting c) .channel) in
+    let offset-channel : tie.Need-mul-t56 = λ c. omega (arith, inside (putting c) .channel) in
     let index-channel : tie.Need-element-set-from-state = λ c. inside (putting c) .channel in
     let used-requires : tie.Need-used-requires = λ c κs. search needs in
     let index-length : tie.Need-element-write-state-2 = λ c. inside (putting (c .before)) .channel in
@@ -246,6 +255,6 @@ step-spec =
     tie.close
     (tie.spec admit-requires known-at known-refusal refused-requires refused cast-channel cast-process offset-places
     index-places index-lengths held-requires offset-words index-words index-tags read-requires turn-requires
-    answer-stopped length-stopped stopped offset-word index-word index-tag index-logical index-closed index-sent
-    index-messages index-channels plain-channels-requires places-requires offset-channel index-channel used-requires
-    index-length answer-accepted length-accepted accepted)
+    answer-stopped length-stopped stopped offset-word index-word index-tag index-logical index-saved index-closed
+    index-sent index-messages index-channels plain-channels-requires places-requires offset-channel index-channel
+    used-requires index-length answer-accepted length-accepted accepted)

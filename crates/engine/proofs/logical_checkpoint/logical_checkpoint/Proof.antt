@@ -16,7 +16,8 @@ use Rattle.engine.specs.declared.spot.Spot.{Spot}
 use Rattle.engine.specs.Spots.{Sees, putBack}
 use Rattle.engine.proofs.Views.{same-state}
 use Rattle.engine.proofs.Turning.{Found, found, quiet-refused, quiet-went}
-use Rattle.engine.proofs.Turning.{same-flags, same-word, same-channel, same-closed, same-sent, same-counts}
+use Rattle.engine.proofs.Turning.{same-flags, same-word, same-channel, same-saved, same-closed, same-sent}
+use Rattle.engine.proofs.Turning.{same-counts}
 use Rattle.engine.proofs.logical_checkpoint.logical_checkpoint.Statement.{statement}
 use Rattle.engine.proofs.logical_checkpoint.logical_checkpoint.Tie as tie
 
@@ -52,7 +53,7 @@ returns-2 c =
     (λ g v. rw (v .tag)
     (ap (quietly says.done)
     (same-state refl (v .round) (sym (same-word v)) refl (sym (same-channel v))
-    (same-flags refl (sym (same-closed v)) (sym (same-sent v))) (sym (same-counts v)))))
+    (same-flags refl (sym (same-saved v)) (sym (same-closed v)) (sym (same-sent v))) (sym (same-counts v)))))
 
 pub logical-checkpoint-spec : {M : Type 1} → statement M
 logical-checkpoint-spec =

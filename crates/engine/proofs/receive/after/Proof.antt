@@ -24,6 +24,7 @@ returns c =
       word = c .word-after .ensures;
       tag = toggled (a .s .tag) (a .x .«logical_first»);
       logical = refl;
+      saved = refl;
       closed = refl;
       sent = refl;
       inChannel = refl;

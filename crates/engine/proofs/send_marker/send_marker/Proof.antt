@@ -18,7 +18,8 @@ use Rattle.engine.specs.declared.spot.Spot.{Spot}
 use Rattle.engine.specs.Spots.{Sees, putBack}
 use Rattle.engine.proofs.Views.{same-state}
 use Rattle.engine.proofs.Turning.{Found, found, quiet-refused, quiet-went}
-use Rattle.engine.proofs.Turning.{same-flags, same-word, same-tag, same-logical, same-closed, same-counts}
+use Rattle.engine.proofs.Turning.{same-flags, same-word, same-tag, same-logical, same-saved, same-closed}
+use Rattle.engine.proofs.Turning.{same-counts}
 use Rattle.engine.proofs.send_marker.send_marker.Statement.{statement}
 use Rattle.engine.proofs.send_marker.send_marker.Tie as tie
 
@@ -80,7 +81,7 @@ returns-3 c =
     (λ g v. rw (v .held, ← (pushed .push .ensures ∙ marker-pushed _ _ (room (pushed .before))))
     (ap (quietly says.done)
     (same-state refl (v .round) (sym (same-word v)) (sym (same-tag v)) refl
-    (same-flags (sym (same-logical v)) (sym (same-closed v)) refl) (sym (same-counts v)))))
+    (same-flags (sym (same-logical v)) (sym (same-saved v)) (sym (same-closed v)) refl) (sym (same-counts v)))))
 
 pub send-marker-spec : {M : Type 1} → statement M
 send-marker-spec =

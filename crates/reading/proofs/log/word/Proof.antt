@@ -8,7 +8,7 @@ use mathlib.Core.List.{List}
 use borrow.Author.Tests.{lt-ltb, le-ltb}
 use Rattle.model.specs.Topology.{processLimit}
 use Rattle.model.specs.Form.{Form, Log, cell, messageLog, physicalCell, countCell, receiptsBy, entriesBy}
-use Rattle.model.specs.Recover.{storedLine, restored, restoredBy}
+use Rattle.model.specs.Recover.{storedLine, restored}
 use Rattle.reading.specs.Source.{formOf, possible, wordAt}
 use Rattle.reading.proofs.Whole.{none-such, beyond, over, within}
 use Rattle.reading.proofs.log.word.Statement.{statement}
@@ -62,23 +62,23 @@ unfolding cell
 returns-3 c =
     let p = c .before .before .before in rw (over (F p) (st p) (log p) (rw (counts p) (c .if3 .taken)))
 
-replayed-requires : tie.Need-replayed-requires
+restored-requires : tie.Need-restored-requires
 unfolding cell
-replayed-requires c κs =
+restored-requires c κs =
     let e = c .before .before in
     record { inside = omega (arith, e .if2 .left, e .before .process-cells .ensures .is); count = omega arith }
 
 returns-4 : tie.Need-returns-4
-unfolding cell restored restoredBy receiptsBy entriesBy physicalCell countCell
+unfolding cell restored receiptsBy entriesBy physicalCell countCell
 returns-4 c =
     let d = c .before in
     let e = d .before .before in
     let p = e .before in
-    c .replayed .ensures
+    c .restored .ensures
     ∙ rw (within (F p) (st p) (log p) (possibly p)
     (omega (arith, e .if2 .left, counts p, p .process-cells .ensures .is))
     (rw (counts p) (omega (arith, d .if3 .left))))
-    (ap (wordAt (F p) (st p)) (begins p))
+    (ap (wordAt (F p) _ (st p)) (begins p))
 
 pub word-spec : {M : Type 1} → statement M
 word-spec =
@@ -89,5 +89,5 @@ word-spec =
     returns-2
     (λ c. search needs) (λ c. search needs) (λ c. search needs) (λ c. omega arith)
     returns-3
-    replayed-requires
+    restored-requires
     returns-4)

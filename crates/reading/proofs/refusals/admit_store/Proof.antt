@@ -1,4 +1,4 @@
--- `refusals::admit_store` meets its contract: 1 to 6 where they refuse, else 16.
+-- `refusals::admit_store` meets its contract: 1 to 5, 19 and 6 where they refuse, else 16.
 use mathlib.Core.Path.{sym, ap, _∙_}
 use mathlib.Core.Option.{orElse}
 use borrow.Author.Needs.{needs}

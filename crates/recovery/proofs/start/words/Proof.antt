@@ -5,7 +5,7 @@ use mathlib.Core.Path.{_≡_, refl, _∙_}
 use borrow.Author.Needs.{needs}
 use native.Mathlib.Omega.{arith}
 use lib.ListN.{length, getD, length-set}
-use Rattle.model.specs.Topology.{processLimit}
+use Rattle.model.specs.Topology.{processLimit, isLate}
 use Rattle.model.specs.Layout.{present}
 use Rattle.model.proofs.laws.Functions.{seen-replicate, filledBelow, filled-none, filled-more}
 use Rattle.model.proofs.store.Readable.{readable}
@@ -18,7 +18,7 @@ abbrev Inv-loop : tie.InvT-loop
 Inv-loop topology store r₀ p₀ r p =
     (p ≤ topology .processes)
     × (length r ≡ processLimit)
-    × ((λ (i : ℕ). getD r i 0) ≡ filledBelow p (wordOf store) 0)
+    × ((λ (i : ℕ). getD r i 0) ≡ filledBelow p (wordOf topology store) 0)
 
 abbrev μ-loop : tie.MeasureT-loop
 μ-loop topology store r₀ p₀ r p = topology .processes - p
@@ -36,18 +36,22 @@ inside t =
     omega (arith, t .if1 .taken, readable present (a .topology) (a .store .now) (start t .pre) .sized .processes)
 
 loop-holds : tie.Need-loop-holds Inv-loop μ-loop
-loop-holds c = (omega arith, refl, seen-replicate processLimit 0 ∙ filled-none (wordOf (c .before .args .store .now)) 0)
+loop-holds c =
+    let a = c .before .args in
+    (omega arith, refl, seen-replicate processLimit 0 ∙ filled-none (wordOf (a .topology) (a .store .now)) 0)
 
 loop-again : tie.Need-loop-again Inv-loop μ-loop
+unfolding isLate
 loop-again c =
-    let t = c .before in
+    let asked = c .before in
+    let t = asked .before in
     let l = t .before .before .loop in
     let a = start t .args in (
       omega arith,
       simp length-set (l .inv .1),
-      filled-more (λ x. x) (l .r) 0 (c .word .result) (at t) (wordOf (a .store .now)) 0
+      filled-more (λ x. x) (l .r) 0 (c .word .result) (at t) (wordOf (a .topology) (a .store .now)) 0
           (omega (arith, l .inv .1, inside t)) (l .inv .2)
-          (word-given _ (a .topology) _ (start t .pre) _ (t .if1 .taken) (c .word .ensures)),
+          (word-given _ (a .topology) _ (start t .pre) _ (t .if1 .taken) (asked .is-late .ensures) (c .word .ensures)),
     )
 
 returns : tie.Need-returns Inv-loop μ-loop
@@ -64,8 +68,8 @@ words-spec =
     Inv-loop
     μ-loop
     loop-holds
-    (λ c κs. search needs) (λ c. search needs) (λ c. search needs)
-    (λ c. omega (arith, inside (c .before)))
+    (λ c κs. search needs) (λ c κs. search needs) (λ c. search needs) (λ c. search needs)
+    (λ c. omega (arith, inside (c .before .before)))
     (λ c. search needs) (λ c. search needs)
     loop-again
     returns)

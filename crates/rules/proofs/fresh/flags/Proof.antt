@@ -11,6 +11,7 @@ unfolding viewProgress noProgress
 returns c =
     λ i. record {
       logical = seen-replicate processLimit false i;
+      saved = seen-replicate processLimit false i;
       closed = seen-replicate channelLimit false i;
       sent = seen-replicate channelLimit false i;
     }

@@ -12,14 +12,15 @@ idle-message c channel = rw (c .logs .ensures, c .before .enum-told .given .1)
 physical-message : tie.Need-returns-2
 unfolding viewReaction reactionTo logsOnly
 physical-message c channel =
-    let told = c .before .before .before in
+    let told = c .before .before .before .before in
     rw (c .logs2 .ensures, told .phase .given .1, told .before .before .before .e .given .1)
 
 logical-message : tie.Need-returns-3
 unfolding viewReaction reactionTo
 logical-message c channel =
-    let told = c .before .before .before .before in
-    rw (told .enum-told2 .given .1, told .before .before .before .e .given .1)
+    let asked = c .before .before in
+    let told = asked .before .before .before in
+    rw (asked .in-message-log .ensures, told .enum-told2 .given .1, told .before .before .before .e .given .1)
 
 idle-marker : tie.Need-returns-4
 unfolding viewReaction reactionTo logsOnly
@@ -40,7 +41,7 @@ pub react-spec : {M : Type 1} → statement M
 react-spec =
     tie.close
     (tie.spec (λ c. search needs) (λ c. search needs) (λ c κs. search needs) (λ c. search needs)
-    (λ c κs. search needs) (λ c. search needs) (λ c. search needs) (λ c. search needs) (λ c κs. search needs)
-    (λ c. search needs) (λ c κs. search needs) (λ c. search needs)
+    (λ c κs. search needs) (λ c. search needs) (λ c κs. search needs) (λ c. search needs) (λ c. search needs)
+    (λ c κs. search needs) (λ c. search needs) (λ c κs. search needs) (λ c. search needs)
     idle-message physical-message logical-message
     idle-marker physical-marker logical-marker)

@@ -1,5 +1,5 @@
--- `rules::topology::passes` meets its contract: 1 and 2 where they refuse, else what the two passes say.
-use mathlib.Core.Path.{_≡_, sym, ap, _∙_}
+-- `rules::topology::passes` meets its contract: 1 and 2 where they refuse, else what the three passes say.
+use mathlib.Core.Path.{_≡_, sym, ap, ap₂, _∙_}
 use mathlib.Core.Bool.{true, _&&_}
 use borrow.Author.Needs.{needs}
 use borrow.Author.Tests.{not-true, not-false}
@@ -7,12 +7,12 @@ use mathlib.Core.Option.{none, orElse}
 use Rattle.model.specs.declared.Topology.{Topology}
 use Rattle.model.specs.Notation.{allBelow}
 use Rattle.model.specs.Check.{accepts}
-use Rattle.model.specs.Topology.{sizeRefusal, topologyRefusal, channelsRefusal}
+use Rattle.model.specs.Topology.{sizeRefusal, topologyRefusal}
 use Rattle.model.specs.Outcome.{refusalOf}
 use Rattle.model.specs.Sound.{topologySound}
 use Rattle.model.proofs.laws.TopologyLaws.{SizesFit, sizes}
 use Rattle.rules.specs.Ends.{joinsTwo, apart}
-use Rattle.rules.proofs.EndsPass.{pass-all}
+use Rattle.rules.proofs.EndsPass.{lateKnown, beyond-pass}
 use Rattle.rules.proofs.topology.passes.Statement.{statement}
 use Rattle.rules.proofs.topology.passes.Tie as tie
 
@@ -31,9 +31,10 @@ module _ (c : tie.After-enum-told) where
   fit : SizesFit (T .processes) (T .channels)
   fit = sizes _ _ sizes-pass
 
-  by-passes : topologySound T ≡ (allBelow (T .channels) (joinsTwo T) && allBelow (T .channels) (apart T))
-  unfolding topologySound topologyRefusal channelsRefusal orElse
-  by-passes = rw sizes-pass (pass-all T (T .channels))
+  by-passes : topologySound T
+      ≡ ((allBelow (T .channels) (joinsTwo T) && allBelow (T .channels) (apart T)) && lateKnown T)
+  unfolding topologySound topologyRefusal orElse
+  by-passes = rw sizes-pass (beyond-pass T)
 
 refused : tie.Need-returns
 unfolding topologySound topologyRefusal orElse accepts refusalOf
@@ -48,10 +49,14 @@ all-joined : (c : tie.Else1) → let t = T (c .before .before) in allBelow (t .c
 all-joined c = sym (c .before .joined .ensures) ∙ not-false _ (c .if1 .left)
 
 by-table : tie.Need-returns-3
-by-table c = c .distinct .ensures ∙ sym (by-passes (c .before .before .before) ∙ rw (all-joined (c .before)))
+by-table c =
+    let d = c .before in
+    ap₂ _&&_ (d .distinct .ensures) (c .known .ensures)
+    ∙ sym (by-passes (d .before .before .before) ∙ rw (all-joined (d .before)))
 
 pub passes-spec : {M : Type 1} → statement M
 passes-spec =
     tie.close
     (tie.spec (λ c κs. search needs) (λ c. search needs) (λ c. search needs) refused (λ c κs. fit c .channels)
-    not-joined (λ c κs. let s = fit (c .before .before) in (s .processes, s .channels, all-joined c)) by-table)
+    not-joined (λ c κs. let s = fit (c .before .before) in (s .processes, s .channels, all-joined c))
+    (λ c κs. search needs) by-table)
