@@ -33,7 +33,7 @@ module _ (T : Topology) (c b : ℕ) (h : History) where
   pub on-late : sentAfterMark T c h ≡ true → h .mark (receiver T c) ≡ none
       → onMessage T c b h ≡ addEvent (receiver T c) (receivedOn c b) (markNow (receiver T c) h)
   unfolding onMessage markUnmarked
-  on-late e z = rw (e, z)
+  on-late e z = simp (e, z)
 
   -- a receiver that has its mark gets no other
   pub stays-marked : {n : ℕ} {x : Bool} {m : Option ℕ} → Marked n x m → x ≡ true → markUnmarked m (receiver T c) h ≡ h

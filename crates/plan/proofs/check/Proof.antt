@@ -1,6 +1,7 @@
 -- `check` meets its contract: each return rewrites the definition's tests by those that led there.
 use borrow.Author.Needs.{needs}
 use borrow.Author.Tests.{lt-ltb, le-ltb}
+use Prim.Native.Nat.{_≤_}
 use mathlib.Core.Path.{_≡_, sym, ap, _∙_}
 use mathlib.Core.Bool.{false}
 use mathlib.Core.Option.{none, orElse}
@@ -49,7 +50,8 @@ unfolding refusalOf shapeRefusal orElse firstRefusal
 passes c =
     let p = c .before in
     let k = p .before in
-    rw (two (k .before .before), fit k, ← p .plan-length .ensures, le-ltb _ _ (c .if2 .left))
+    let whole : p .plan-length .result ≤ length (start (k .before .before) .args .bytes .now) = c .if2 .left in
+    rw (two (k .before .before), fit k, ← p .plan-length .ensures, le-ltb _ _ whole)
 
 pub check-spec : {M : Type 1} → statement M
 check-spec =

@@ -2,7 +2,7 @@
 use borrow.Author.Needs.{needs}
 use native.Mathlib.Omega.{arith}
 use mathlib.Core.Path.{_≡_, sym, _∙_}
-use mathlib.Core.Bool.{false}
+use mathlib.Core.Bool.{true, false, _&&_}
 use Rattle.model.specs.declared.Step.the-variants.{Receive}
 use Rattle.model.specs.declared.Entry.{Entry}
 use Rattle.model.proofs.laws.ChannelLaws.{entries-count}
@@ -55,9 +55,9 @@ channel-empty c =
 
 marker-on-closed : tie.Need-returns-2
 marker-on-closed c =
-    let then = c .before in
-    turns-refused _ _ _ _ _ (λ g v. checks (decided (then .before .before .before)) g v ∙ rw (then .if2 .taken))
-    (c .refused2 .ensures)
+    let p = c .before .before .before .before in
+    let again : (p .react .result .closes && s p .closed) ≡ true = c .before .if2 .taken in
+    turns-refused _ _ _ _ _ (λ g v. checks (decided p) g v ∙ rw again) (c .refused2 .ensures)
 
 log-full : tie.Need-returns-3
 log-full c =

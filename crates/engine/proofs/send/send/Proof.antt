@@ -3,12 +3,14 @@ use borrow.Author.Needs.{needs}
 use Prim.Native.Nat.{ℕ}
 use mathlib.Core.Path.{_≡_, refl, sym, ap, _∙_}
 use mathlib.Core.Bool.{Bool, false, cond}
+use mathlib.Core.List.{[], _∷_, _++_}
 use mathlib.Core.Option.{none, some}
+use Rattle.model.specs.declared.Entry.the-variants.{Message}
 use Rattle.model.specs.declared.Step.the-variants.{Send}
 use Rattle.model.specs.Outcome as says
 use Rattle.model.specs.Check.{firstRefusal}
 use Rattle.model.specs.Topology.{sender, hasChannel}
-use Rattle.model.specs.Channel.{entries, noRoomForMessage}
+use Rattle.model.specs.Channel.{entries, roomLeft, noRoomForMessage}
 use Rattle.model.specs.State.{GlobalState}
 use Rattle.model.specs.Change.{setEntries, withChannel}
 use Rattle.model.specs.Step.{priorChecks, roomChecks, logChecks, ownChecks, effect, quietly}
@@ -48,14 +50,11 @@ returns-2 c =
     let pushed = c .before .before in
     let s = pushed .before .before .before .before .args .s in
     let b = pushed .before .before .before .before .args .body in
+    let put : entries (pushed .push .result) ≡ entries (s .held) ++ (Message b (s .tag) ∷ []) =
+    pushed .push .ensures ∙ message-pushed _ _ (room (pushed .before)) in
+    let told : c .before .room .result ≡ roomLeft (entries (pushed .push .result)) = c .before .room .ensures in
     quiet-went _ _ (c .went .ensures) refl refl refl (λ g v. own s b g v (room (pushed .before)))
-    (λ g v. rw (
-      here s b g v .process,
-      v .held,
-      v .tag,
-      ← (pushed .push .ensures ∙ message-pushed _ _ (room (pushed .before))),
-      ← (c .before .room .ensures),
-    )
+    (λ g v. rw (here s b g v .process, v .held, v .tag, ← put, ← told)
     (ap (quietly (says.sent (c .before .room .result)))
     (same-state refl (v .round) (sym (same-word v)) (sym (same-tag v)) refl (sym (same-progress v))
     (sym (same-counts v)))))

@@ -26,7 +26,7 @@ old-form c =
 
 late-process : tie.Need-returns-2
 unfolding restore restoreBy
-late-process c = rw (c .before .before .enum-told2 .given .1, c .before .if1 .taken) (c .undone .ensures)
+late-process c = simp (c .before .before .enum-told2 .given .1, c .before .if1 .taken) (c .undone .ensures)
 
 early-process : tie.Need-returns-3
 unfolding restore restoreBy

@@ -9,7 +9,7 @@ use Rattle.recovery.proofs.start.idle.Tie as tie
 
 returns : tie.Need-returns
 unfolding view idleState
-returns c = rw (seen-replicate processLimit false, c .before .flags .ensures, c .counts .ensures)
+returns c = simp (seen-replicate processLimit false, c .before .flags .ensures, c .counts .ensures)
 
 pub idle-spec : {M : Type 1} → statement M
 idle-spec = tie.close (tie.spec (λ c κs. search needs) (λ c κs. search needs) returns)

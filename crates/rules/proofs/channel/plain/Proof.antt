@@ -59,7 +59,7 @@ loop-again c =
       omega arith,
       omega (arith, w .3 .ensures .1),
       w .3 .ensures .0
-          ∙ rw (put from kinds places _ (l .i) (l .inv .1) stood (test _), l .inv .2, message-more from (l .i) stood)
+          ∙ simp (put from kinds places _ (l .i) (l .inv .1) stood (test _), l .inv .2, message-more from (l .i) stood)
           (sym (messages-append false (bodiesBelow (l .i) from) _)),
       l .inv .3,
     ))
