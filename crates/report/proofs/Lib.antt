@@ -2,6 +2,7 @@
 pub mod Appending
 pub mod Printing
 pub mod Texts
+pub mod Endings
 pub mod HexTexts
 pub mod Filling
 pub mod Changes

@@ -4,7 +4,7 @@ use mathlib.Core.Path.{_≡_, _∙_}
 use mathlib.Core.List.{List}
 use lib.ListN.{length, take, length-take}
 use lib.Seq.{take-length, take-paste, drop-paste}
-use native.Mathlib.Nat.{add-mul}
+use native.Mathlib.Nat.{add-mul, mul-le-mul-right}
 use native.Mathlib.Omega.{arith}
 use Rattle.model.specs.Notation.{concatBelow}
 use Rattle.model.proofs.laws.Lists.{concat-more}
@@ -32,6 +32,9 @@ module _ {most n : ℕ} {f : ℕ → List ℕ} {b : List ℕ} {at : ℕ} where
 
     pub all-appended : n ≤ i → Appends (n * most) b at (concatBelow n f) m r
     all-appended l = let e : n ≡ i = omega (arith, p .within) in rw e (p .text)
+
+    pub all-within : {k : ℕ} → n ≤ i → n ≤ k → Appends (k * most) b at (concatBelow n f) m r
+    all-within l h = at-most (all-appended l) (mul-le-mul-right most h)
 
     pub kept-length : length m ≡ length b
     kept-length = appended-length (p .text)

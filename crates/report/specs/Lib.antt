@@ -3,5 +3,6 @@ pub mod Text
 pub mod Hex
 pub mod Changed
 pub mod TextBytes
+pub mod Ending
 pub mod Appends
 pub mod Examples

@@ -9,7 +9,7 @@ use lib.ListN.{length, getD}
 use lib.Dec.{ltb}
 use Rattle.model.specs.Notation.{concatBelow}
 use Rattle.model.specs.Outcome.{Said, done, sent, took, note, line, refused, cut, saidValues}
-use Rattle.model.specs.Program.{Line, Output, planRefused, ran}
+use Rattle.model.specs.Program.{Line, Output, planRefused, ran, head}
 
 -- the codes of a text's characters
 abbrev pub chars : String → List ℕ
@@ -89,3 +89,7 @@ outputText (ran lines words channels) =
     linesText lines
     ++ concatBelow (length words) (λ p. processText p (getD words p 0))
     ++ concatBelow (length channels) (λ c. channelText c (getD channels c []))
+
+-- what `head` prints, from the bytes of its input to those of its output
+unfoldable pub headText : List ℕ → List ℕ
+headText input = outputText (head input)

@@ -1,5 +1,5 @@
 -- How many bytes the texts have at most. Every number that is printed is a `u32` of the code.
-use Prim.Native.Nat.{ℕ, _+_, _*_}
+use Prim.Native.Nat.{ℕ, _+_, _*_, min}
 
 -- `4294967295`
 abbrev pub numberBytes : ℕ
@@ -27,9 +27,10 @@ planRefusedBytes = namedBytes 12 1
 abbrev pub processBytes : ℕ
 processBytes = namedBytes 5 2
 
--- a channel's count is a byte: its number, the count of its messages, and at most 255 bodies
-abbrev pub channelBytes : ℕ
-channelBytes = namedBytes 4 (2 + 255)
+-- a channel's: its number, the count of its messages, and their bodies, no more than it has entries; and the count of
+-- its entries is a byte
+abbrev pub channelBytes : ℕ → ℕ
+channelBytes entries = namedBytes 4 (2 + min 255 entries)
 
 abbrev pub cellBytes : ℕ
 cellBytes = namedBytes 4 2

@@ -2,6 +2,7 @@
 // function writes from the position at on, as far as the buffer goes, and answers the position after what it wrote. Its
 // promise also says how many bytes the text has at most, so that a caller knows how long a buffer holds it whole.
 pub mod cells;
+pub mod ending;
 mod hex;
 
 pub use hex::kept_line;
@@ -124,15 +125,15 @@ pub fn outcome_line(out: &mut [u8], at: usize, number: u32, outcome: Outcome, ma
     last(out, told, made)
 }
 
-// A recover's line: it makes no writes.
-pub fn recover_line(out: &mut [u8], at: usize, number: u32, line: u32) -> usize
+// A recover's line.
+pub fn recover_line(out: &mut [u8], at: usize, number: u32, line: u32, made: u32) -> usize
     ensures { λ r. ⌜ Appends lineBytes (now (out .entry)) at
-        (saidLine number (says.line line) 0) (now (out .exit)) r ⌝ }
+        (saidLine number (says.line line) made) (now (out .exit)) r ⌝ }
 {
     let next = numbered(out, at, number);
     let named = bytes(out, next, b"line");
     let told = value(out, named, line);
-    last(out, told, 0)
+    last(out, told, made)
 }
 
 // The line for a plan that is refused.
@@ -195,7 +196,7 @@ fn bodies(out: &mut [u8], at: usize, c: Channel) -> usize
 
 // The line of a channel (wire) with its messages: their number, and their bodies.
 pub fn channel_line(out: &mut [u8], at: usize, c: u32, channel: Channel) -> usize
-    ensures { λ r. ⌜ Appends channelBytes (now (out .entry)) at
+    ensures { λ r. ⌜ Appends (channelBytes (length (entries channel))) (now (out .entry)) at
         (channelText c (bodies (entries channel))) (now (out .exit)) r ⌝ }
 {
     let named = bytes(out, at, b"wire");

@@ -2,5 +2,4 @@
 pub mod Requests
 pub mod Serving
 pub mod Sessions
-pub mod Lines
 pub mod Opening

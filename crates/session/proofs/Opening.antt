@@ -9,7 +9,7 @@ use borrow.Author.Tests.{le-ltb}
 use native.Mathlib.Omega.{arith}
 use Rattle.model.specs.declared.Topology.{Topology}
 use Rattle.model.specs.Check.{firstRefusal}
-use Rattle.model.specs.Topology.{processLimit, channelLimit}
+use Rattle.model.specs.Topology.{topologyRefusal}
 use Rattle.model.specs.Layout.{storeCells}
 use Rattle.model.specs.State.{GlobalState}
 use Rattle.model.specs.Start.{initializeRefusal, initialize}
@@ -18,14 +18,15 @@ use Rattle.model.specs.Program.{sessionFrom, sessionOf, playedOf, played}
 use Rattle.model.specs.Recover as recovery
 use Rattle.plan.proofs.PlanReads.{Passes}
 use Rattle.report.specs.Appends.{Appends}
-use Rattle.report.specs.TextBytes.{planRefusedBytes, processBytes, channelBytes, cellBytes}
+use Rattle.report.specs.Ending.{endingText, endingBytes}
+use Rattle.report.specs.TextBytes.{planRefusedBytes, cellBytes}
 use Rattle.report.specs.Text.{planRefusedText, outputText}
 use Rattle.report.specs.Changed.{startStore, changedText}
 use Rattle.report.proofs.Appending.{_then_, at-most}
+use Rattle.report.proofs.Endings.{report-text, ending-fits}
 use Rattle.session.specs.Drill.{drillText}
-use Rattle.session.specs.Output.{playedBytes, processesText, channelsText, MayRun, Plays, planPlayed}
+use Rattle.session.specs.Output.{playedBytes, MayRun, Plays, planPlayed}
 use Rattle.session.specs.Serving.{Prints}
-use Rattle.session.proofs.Lines.{report-text}
 
 -- initialize isn't refused, which is why nothing looks at its answer
 pub starts : {T : Topology} {records store : List ℕ} → MayRun T records store
@@ -41,17 +42,16 @@ module _ (source : BudgetSource) (T : Topology) (store records : List ℕ) {s : 
   unfolding sessionOf
   all-requests = rw (es, eb)
 
-  pub plays-through : {last : GlobalState} {out left m m′ a : List ℕ} {r r′ q : ℕ}
+  pub plays-through : {last : GlobalState} {out left m a : List ℕ} {r q : ℕ}
       → Prints (length records) (sessionFrom source T 1 s started records) out 0 m r last left
-      → Appends (processLimit * processBytes) m r (processesText (T .processes) (last .word)) m′ r′
-      → Appends (channelLimit * channelBytes) m′ r′ (channelsText (T .channels) (last .channel)) a q
+      → topologyRefusal T ≡ none → Appends (endingBytes T last) m r (endingText T last) a q
       → Plays (planPlayed source T store records) out a q left
-  plays-through p lines more =
+  plays-through {last} p accepted ending =
       rw all-requests
       (record {
         text =
             rw (report-text T (sessionFrom source T 1 s started records), ← p .state)
-            (at-most (p .text then lines then more) (omega arith));
+            (at-most (p .text then ending-fits T last 255 accepted (omega arith) ending) (omega arith));
         store = p .store;
       })
 

@@ -1,42 +1,30 @@
--- The whole output of `head`, as bytes, and what a program of its kind prints on any store.
+-- What a program such as `head` prints on any store, and how long that is.
 use Prim.Native.Nat.{ℕ, _+_, _*_, _/_, _≤_}
 use mathlib.Core.Path.{_≡_}
 use mathlib.Core.List.{List}
 use mathlib.Core.Option.{none}
 use lib.ListN.{length}
-use Rattle.model.specs.declared.Entry.{Entry}
 use Rattle.model.specs.declared.Topology.{Topology}
-use Rattle.model.specs.Notation.{concatBelow}
-use Rattle.model.specs.Topology.{processLimit, channelLimit, topologyRefusal}
-use Rattle.model.specs.Channel.{bodies}
+use Rattle.model.specs.Topology.{topologyRefusal}
 use Rattle.model.specs.Layout.{storeCells}
-use Rattle.model.specs.Program.{BudgetSource, Session, Played, inputBytes, sessionOf, report, head}
+use Rattle.model.specs.Program.{BudgetSource, Session, Played, inputBytes, sessionOf, report}
 use Rattle.report.specs.Appends.{Appends}
-use Rattle.report.specs.TextBytes.{lineBytes, processBytes, channelBytes, cellBytes}
-use Rattle.report.specs.Text.{processText, channelText, outputText}
-
-unfoldable pub headText : List ℕ → List ℕ
-headText input = outputText (head input)
+use Rattle.report.specs.TextBytes.{lineBytes, cellBytes}
+use Rattle.report.specs.Text.{outputText}
+use Rattle.report.specs.Ending.{longestEnding}
 
 -- How many bytes an output has at most. A request has at least 2 bytes, and where the bytes break off there is at least
 -- 1: so there is at most half a line for each byte, and half a line more.
 abbrev pub requestsBytes : ℕ → ℕ
 requestsBytes bytes = lineBytes / 2 * (bytes + 1)
 
--- with the processes and the channels: all that `head` prints
+-- with the processes and the channels, whose entries are counted by a byte: all that `head` prints
 abbrev pub playedBytes : ℕ
-playedBytes = requestsBytes inputBytes + processLimit * processBytes + channelLimit * channelBytes
+playedBytes = requestsBytes inputBytes + longestEnding 255
 
 -- with the cells that `drill` prints: 1,570,350 bytes
 abbrev pub outputBytes : ℕ
 outputBytes = playedBytes + storeCells * cellBytes
-
--- the lines of the first n processes with these words, and of the first n channels with these entries
-abbrev pub processesText : ℕ → (ℕ → ℕ) → List ℕ
-processesText n word = concatBelow n (λ p. processText p (word p))
-
-abbrev pub channelsText : ℕ → (ℕ → List Entry) → List ℕ
-channelsText n channel = concatBelow n (λ c. channelText c (bodies (channel c)))
 
 -- a plan that passes its checks, no more bytes after it than are taken, and a store that is long enough
 pub record MayRun (T : Topology) (records store : List ℕ) : Type 0 where

@@ -1,6 +1,5 @@
 // The work of the programs `head` and `drill`: one function from the input's bytes to the output's bytes each. They
 // differ only in where a call's budget comes from, in the store at first, and in what is printed of it.
-mod ending;
 mod play;
 mod request;
 mod serve;
@@ -10,8 +9,9 @@ use rules::layout::STORE_CELLS;
 ghost use mathlib.Core.Path.{_≡_};
 ghost use lib.ListN.{replicate};
 ghost use Rattle.report.specs.Appends.{WholeText};
+ghost use Rattle.report.specs.Text.{headText};
 ghost use Rattle.session.specs.Drill.{drillText};
-ghost use Rattle.session.specs.Output.{headText, outputBytes};
+ghost use Rattle.session.specs.Output.{outputBytes};
 
 // No output is longer than this: specs/Output.antt has the sum.
 const OUTPUT_BYTES: usize = 1570350;

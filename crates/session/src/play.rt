@@ -1,5 +1,4 @@
 // A whole session on a lent store, from the input's plan to the last line.
-use crate::ending;
 use crate::request::BudgetSource;
 use crate::serve;
 use model::Topology;
@@ -28,11 +27,7 @@ fn run(
     let state = started.state;
     let cursor = serve::requests(source, topology, state, records, store, out);
     let last = cursor.state;
-    let words = last.words;
-    let at = ending::processes(topology.processes, words, out, cursor.at);
-    let places = last.places;
-    let lengths = last.lengths;
-    ending::channels(topology.channels, places, lengths, out, at)
+    report::ending::print(topology, last, out, cursor.at)
 }
 
 pub fn play(source: BudgetSource, input: &[u8], store: &mut [u32], out: &mut [u8]) -> usize

@@ -36,7 +36,7 @@ fn recover(topology: Topology, cursor: Cursor, store: &[u32], out: &mut [u8]) ->
         Start::Ready => {
             let state = started.state;
             let round = state.round;
-            let at = report::recover_line(out, cursor.at, number, round.line);
+            let at = report::recover_line(out, cursor.at, number, round.line, 0);
             Cursor {
                 number: number + 1,
                 at,

@@ -2,7 +2,7 @@
 use borrow.Author.Needs.{needs}
 use native.Mathlib.Omega.{arith}
 use Rattle.model.specs.Program.{head}
-use Rattle.session.specs.Output.{headText}
+use Rattle.report.specs.Text.{headText}
 use Rattle.report.proofs.Printing.{whole-text}
 use Rattle.session.proofs.head.Statement.{statement}
 use Rattle.session.proofs.head.Tie as tie
