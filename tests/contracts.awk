@@ -23,6 +23,8 @@ FNR == 1 {
 
 /^ *(pub |pub[(][a-z]*[)] )?([a-z]+ |"C" )*fn / { begin_head() }
 
+crate == "slow" && !/^ *(\/\/|ghost )/ && names_another() { tell(FILENAME ":" FNR ": the slow engine names " another) }
+
 in_head && /^ *requires / { requires[functions] = clause = 1 }
 in_head && /^ *ensures / { ensures[functions] = clause = 1 }
 in_head && (/^ *[{]$/ || (!clause && /[{]}?$/)) { in_head = 0 }
@@ -34,6 +36,17 @@ END {
     if (faults) exit 1
     print "contracts: " seen " public functions, each with a promise and none with a precondition"
     print "passed " seen
+}
+
+# Whether the line names something of another crate that the slow engine does without: what is left of it without the
+# types of model and the two functions of rules.
+function names_another(    line) {
+    line = $0
+    gsub(/((model|account)::[A-Z][A-Za-z]*|crate::[a-z_:]*)/, "", line)
+    gsub(/rules::(topology::check[(]|word::enter;)/, "", line)
+    if (!match(line, /(rules|model|account|reading|recovery|engine)(::[a-z_:]*| as )/)) return 0
+    another = substr(line, RSTART, RLENGTH)
+    return 1
 }
 
 function within(outer, name) { return outer == "" ? name : outer "::" name }

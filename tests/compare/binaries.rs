@@ -1,19 +1,20 @@
 //! The programs to be tried, and an input through one of them and the reference.
 
+use crate::beside;
 use crate::carried;
 use crate::judge;
 use crate::plans;
 use crate::runner;
 use crate::seen::{Seen, AS_LONG, LONGER};
 use crate::watcher::Watcher;
-use reference::console;
+use reference::console::{self, SLOW};
 use reference::migrate::{DOWNGRADE, UPGRADE};
 use reference::program::{self, Program, Unwatched};
 use std::cmp::Ordering;
 use std::path::{Path, PathBuf};
 
-pub const PROGRAMS: [Program; 4] =
-    [Program::Head, Program::Drill, Program::Console, Program::Converter];
+pub const PROGRAMS: [Program; 5] =
+    [Program::Head, Program::Drill, Program::Console, Program::Converter, Program::Slow];
 
 /// The programs, in that order; none where one is left out.
 pub struct Binaries(pub Vec<Option<PathBuf>>);
@@ -43,6 +44,9 @@ impl Binaries {
             (Program::Head | Program::Drill, _) => hold(path, program, bytes, seen),
             (Program::Console, [UPGRADE | DOWNGRADE, ..]) | (Program::Converter, _) => {
                 carry(path, program, bytes, seen)
+            }
+            (Program::Console, [SLOW, bytes @ ..]) | (Program::Slow, bytes) => {
+                beside::compare(self, path, bytes, seen)
             }
             (Program::Console, _) => judge(path, bytes, seen),
         }

@@ -177,7 +177,7 @@ pub fn refused_lines() -> bool {
     let one = Topology::early(1, Vec::new());
     let answers: [(Vec<u8>, &str); 7] = [
         (vec![], "refused 7\n"),
-        (vec![4, 1, 0], "refused 7\n"),
+        (vec![5, 1, 0], "refused 7\n"),
         (vec![UPGRADE, 0, 0], "plan refused 1\n"),
         (vec![UPGRADE, 1, 0, 2, 0], "plan refused 19\n"),
         (input(DOWNGRADE, &pair(), &store()), "refused 6\n"),

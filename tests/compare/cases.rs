@@ -1,6 +1,7 @@
 //! The cases of document 01, tried on the reference itself, with the refusals
 //! that no input of the programs can bring about; and what `console` may print.
 
+use crate::beside;
 use crate::carries;
 use crate::directed::{LISTING, LISTING_OUTPUT};
 use crate::late_cases;
@@ -15,7 +16,7 @@ use reference::topology::Topology;
 
 type Case = (&'static str, fn() -> bool);
 
-const CASES: [Case; 44] = [
+const CASES: [Case; 46] = [
     ("the listing", listing),
     ("one board gives line 1", one_board),
     ("8th entry passes, 9th send is 9; empty wire is 10", wire_full),
@@ -50,6 +51,8 @@ const CASES: [Case; 44] = [
     ("the last byte that console takes", verdicts::last_byte),
     ("right answers of console", verdicts::right),
     ("wrong answers of console", verdicts::wrong),
+    ("lines of the slow head", verdicts::slow),
+    ("the listing at full current", beside::listing),
     ("words by the old rule", carries::old_words),
     ("the old store's layout", carries::old_layout),
     ("demand 3 of runs by the old rules", carries::old_runs),

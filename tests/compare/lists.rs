@@ -74,6 +74,15 @@ fn damaged(rng: &mut Rng, program: Program) -> Vec<u8> {
     bytes
 }
 
+/// Bytes changed, lost or put in, or the end missing.
+pub fn damage_or_cut(rng: &mut Rng, bytes: &mut Vec<u8>) {
+    if rng.percent(70) {
+        damage(rng, bytes);
+    } else {
+        bytes.truncate(rng.below(bytes.len()));
+    }
+}
+
 /// Changes, loses or puts in some bytes, mostly late ones.
 pub fn damage(rng: &mut Rng, bytes: &mut Vec<u8>) {
     for _ in 0..1 + rng.below(3) {

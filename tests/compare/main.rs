@@ -2,15 +2,19 @@
 //! byte for byte, and checks demand 3 after every call. Judges what `console`
 //! prints on others: a line byte for byte, a part by M-100's definition. Compares
 //! what `console` and `converter` print for a store to be carried, byte for byte,
-//! and restarts from it, there and back.
+//! and restarts from it, there and back. Holds M-106's slow head, `console` asked
+//! by the byte 4, beside `head`, `drill` and the reference, byte for byte.
 //!
-//!     compare HEAD DRILL CONSOLE CONVERTER [LISTS [SEED [SECONDS]]]
+//!     compare HEAD DRILL CONSOLE CONVERTER SLOW [LISTS [SEED [SECONDS]]]
 //!
-//! A program of which `-` is the name is left out, with its lists. LISTS is the
-//! number of random lists for `head` and `drill`; for each five of them there
-//! are three for `console`, and two stores for `console` and `converter`. SECONDS
-//! are spent on making a failing input smaller.
+//! SLOW is `console` once more, in the slow head's place. A program of which `-` is
+//! the name is left out, with its lists. LISTS is the number of random lists for
+//! `head` and `drill`; for each five of them there are three for `console`, and two
+//! stores for `console` and `converter`. The slow head has each list that the
+//! others have, and some of its own. SECONDS are spent on making a failing input
+//! smaller.
 
+mod beside;
 mod binaries;
 mod bytes;
 mod calls;
@@ -35,6 +39,7 @@ mod seen;
 mod shrink;
 mod sights;
 mod simplify;
+mod slow;
 mod sources;
 mod style;
 mod verdicts;
@@ -116,7 +121,8 @@ fn tell(binaries: &Binaries, list: &List, shrinking: Duration) {
     }
 }
 
-/// The random lists of a number, which has a question or a store besides.
+/// The random lists of a number, which has a question or a store besides, and at
+/// times a list for the slow head.
 fn random(seed: u64, number: u64) -> impl Iterator<Item = List> {
     let mut lists = vec![lists::random(seed, number)];
     if number % 5 < 3 {
@@ -124,6 +130,7 @@ fn random(seed: u64, number: u64) -> impl Iterator<Item = List> {
     } else {
         lists.extend(sources::random(seed, number));
     }
+    lists.extend(slow::random(seed, number));
     lists.into_iter()
 }
 
@@ -148,11 +155,17 @@ fn compare_each(
 
 /// All lists, the many about bytes last.
 fn compare_all(order: &Order, seen: &mut Seen) -> Option<u64> {
-    let first: [fn() -> Vec<List>; 5] =
-        [directed::calls, late::all, migrations::reached, reductions::all, migrations::others];
-    let first = first.into_iter().flat_map(|lists| lists());
-    let random = (0..order.lists).flat_map(|number| random(order.seed, number));
-    let last = bytes::all().into_iter().chain(reductions::bytes());
+    let first: [fn() -> Vec<List>; 6] = [
+        directed::calls,
+        late::all,
+        migrations::reached,
+        reductions::all,
+        slow::all,
+        migrations::others,
+    ];
+    let first = slow::beside(first.into_iter().flat_map(|lists| lists()));
+    let random = slow::beside((0..order.lists).flat_map(|number| random(order.seed, number)));
+    let last = slow::beside([bytes::all(), reductions::bytes()].into_iter().flatten());
     let agree = compare_each(order, seen, first, |_, _| ())?;
     let agree = agree + compare_each(order, seen, random, Seen::count_random)?;
     Some(agree + compare_each(order, seen, last, |_, _| ())?)
@@ -164,21 +177,21 @@ fn arguments() -> Option<Order> {
         Some(text) => text.parse().ok(),
         None => Some(default),
     };
-    if !(4..=7).contains(&arguments.len()) {
+    if !(5..=8).contains(&arguments.len()) {
         return None;
     }
     let path = |name: &String| (name != "-").then(|| PathBuf::from(name));
     Some(Order {
-        binaries: Binaries(arguments[..4].iter().map(path).collect()),
-        lists: number(4, LISTS)?,
-        seed: number(5, SEED)?,
-        shrinking: Duration::from_secs(number(6, SECONDS)?),
+        binaries: Binaries(arguments[..5].iter().map(path).collect()),
+        lists: number(5, LISTS)?,
+        seed: number(6, SEED)?,
+        shrinking: Duration::from_secs(number(7, SECONDS)?),
     })
 }
 
 fn main() -> ExitCode {
     let Some(order) = arguments() else {
-        eprintln!("usage: compare HEAD DRILL CONSOLE CONVERTER [LISTS [SEED [SECONDS]]]");
+        eprintln!("usage: compare HEAD DRILL CONSOLE CONVERTER SLOW [LISTS [SEED [SECONDS]]]");
         return ExitCode::from(2);
     };
     for path in PROGRAMS.iter().filter_map(|&program| order.binaries.path(program)) {

@@ -84,14 +84,9 @@ fn accepted(rng: &mut Rng) -> Vec<u8> {
     encode(Program::Console, &topology, &calls)
 }
 
-/// Bytes changed, lost or put in, or the end missing.
 fn broken_records(rng: &mut Rng) -> Vec<u8> {
     let mut bytes = if rng.percent(70) { late(rng) } else { cut(rng, 2) };
-    if rng.percent(70) {
-        lists::damage(rng, &mut bytes);
-    } else {
-        bytes.truncate(rng.below(bytes.len()));
-    }
+    lists::damage_or_cut(rng, &mut bytes);
     bytes
 }
 

@@ -54,7 +54,7 @@ pub fn bytes() -> Vec<List> {
 /// No input, and first bytes that ask for something or for nothing known.
 fn asked(lists: &mut Vec<List>) {
     lists.push(list("no input", Vec::new()));
-    for first in [0, 1, 2, 3, 9, 254, 255] {
+    for first in [0, 1, 2, 3, 4, 5, 9, 254, 255] {
         lists.push(list(&format!("only byte {first}"), vec![first]));
         lists.push(list(&format!("byte {first}, listing"), [&[first], LISTING].concat()));
     }

@@ -118,6 +118,7 @@ fn said(program: Program) -> &'static str {
         Program::Drill => "drill",
         Program::Console => "console",
         Program::Converter => "converter",
+        Program::Slow => "the slow head",
     }
 }
 

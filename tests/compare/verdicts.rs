@@ -1,6 +1,7 @@
 //! Fixed inputs of `console`, with what it may print and what it may not: tests
 //! of the judge, and of the reference's own `console`.
 
+use crate::directed::{LISTING, LISTING_OUTPUT};
 use crate::judge::judge;
 use crate::reductions::longest;
 use crate::seen::Seen;
@@ -28,7 +29,7 @@ pub fn lines() -> bool {
     let answers: [(&[u8], &str); 17] = [
         (b"", "refused 7\n"),
         (b"\x00\x01\x00\x00\x00", "refused 7\n"),
-        (b"\x04\x01\x00\x00\x00", "refused 7\n"),
+        (b"\x05\x01\x00\x00\x00", "refused 7\n"),
         (b"\xFF", "refused 7\n"),
         (b"\x01", "plan refused 7\n"),
         (b"\x01\x01", "plan refused 7\n"),
@@ -51,6 +52,24 @@ pub fn lines() -> bool {
             && passes(input, line.as_bytes())
             && others.iter().all(|other| !passes(input, other.as_bytes()))
     })
+}
+
+/// What the slow head prints (M-106): the listing's lines; a line for bytes that are
+/// no call, which end the list; 256 calls and one more; a refused plan first.
+pub fn slow() -> bool {
+    let printed = |bytes: &[u8]| console::run(&[&[console::SLOW], bytes].concat());
+    let restarts = |number: usize| [&[1, 0, 0, 0], &[1, 9].repeat(number)[..]].concat();
+    let line = |number: usize| format!("{number} line 0 0\n");
+    let most: String = (1..=256).map(line).collect();
+    let broken = [&restarts(256)[..], &[1, 10], &restarts(9)].concat();
+    printed(LISTING) == LISTING_OUTPUT.as_bytes()
+        && printed(&[]) == b"plan refused 7\n"
+        && printed(&restarts(0)) == b"board 0 0\n"
+        && printed(&restarts(256)) == format!("{most}board 0 0\n").as_bytes()
+        && printed(&broken) == format!("{most}257 refused 7 0\nboard 0 0\n").as_bytes()
+        && printed(&restarts(257)) == b"refused 18\n"
+        && printed(&[&restarts(257)[..], &[1, 10]].concat()) == b"refused 18\n"
+        && printed(&[&[1, 0, 2, 0], &restarts(257)[4..]].concat()) == b"plan refused 19\n"
 }
 
 /// The last byte that is taken, 65,536 bytes after the first, completes a record;

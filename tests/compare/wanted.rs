@@ -113,6 +113,18 @@ pub const TWELVES: [&str; 19] = [
     "give up when idle",
 ];
 
+/// Lists for the slow head (M-106), by their calls.
+pub const LENGTHS: [(usize, &str); 4] =
+    [(0, "no call"), (1, "1 call"), (256, "256 calls"), (257, "257 calls")];
+pub const TOO_LONG: Sight = ("refused", "over 256 calls", 18);
+/// How rounds and restarts follow each other in such a list.
+pub const ROUNDS: [&str; 4] = [
+    "one given up, a later one finished",
+    "one finished, a later one given up",
+    "three restarts or more",
+    "two restarts at different lines",
+];
+
 /// Everything that a run must see.
 pub fn required(program: Program) -> Vec<Sight> {
     let asked = match program {
@@ -120,6 +132,7 @@ pub fn required(program: Program) -> Vec<Sight> {
         Program::Drill => [refusals(), calls(), cuts()].concat(),
         Program::Console => [refusals(), reductions(), sights::required()].concat(),
         Program::Converter => [nothing(), sights::required()].concat(),
+        Program::Slow => [refusals(), calls(), slow()].concat(),
     };
     [vec![AS_LONG, LONGER], asked].concat()
 }
@@ -187,7 +200,7 @@ fn cuts() -> Vec<Sight> {
 fn reductions() -> Vec<Sight> {
     let sevens = ["no input", "nothing known is asked", "record, after 256"];
     let mut sights = sevens.map(|what| ("refused", what, 7)).to_vec();
-    sights.extend([("refused", "no call is refused", 17), ("refused", "over 256 calls", 18)]);
+    sights.extend([("refused", "no call is refused", 17), TOO_LONG]);
     let sizes = ["1 call", "2 calls", "9 to 31 calls", "32 to 127 calls", "128 calls or more"];
     sights.extend(sizes.map(|what| ("part of", what, 0)));
     let kept = ["2 of 256 calls", "all of more than 100 calls"];
@@ -195,6 +208,14 @@ fn reductions() -> Vec<Sight> {
     let places = ["the 256th call", "a call before the last"];
     sights.extend(places.map(|what| ("refused at", what, 0)));
     sights.extend((0..8).map(|room| ("sent", IN_A_PART, room)));
+    sights
+}
+
+/// What the slow head's lists are like.
+fn slow() -> Vec<Sight> {
+    let mut sights = LENGTHS.map(|(_, what)| ("list of", what, 0)).to_vec();
+    sights.push(TOO_LONG);
+    sights.extend(ROUNDS.map(|what| ("rounds", what, 0)));
     sights
 }
 

@@ -1,16 +1,20 @@
-//! The program `console` (issue 11, item 4; issue 24, point 7): bytes in, bytes
-//! out. The first byte says what is asked, M-100's part or a store carried by
-//! M-102, and the first 65,536 bytes after it are what it is asked of.
+//! The program `console` (issue 11, item 4; issue 24, point 7; document 02, M-106):
+//! bytes in, bytes out. The first byte says what is asked, M-100's part, a store
+//! carried by M-102 or M-106's slow head, and the first 65,536 bytes after it are
+//! what it is asked of.
 
 use crate::migrate;
 use crate::program::INPUT;
 use crate::record::{self, Record};
 use crate::reduce::RefusedList;
+use crate::slow;
 use crate::topology::Topology;
 use std::fmt::Write;
 
 /// The first byte that asks for the part of a list that matters.
 pub const REDUCE: u8 = 1;
+/// The first byte that asks for what the slow head prints (M-106).
+pub const SLOW: u8 = 4;
 
 /// What an input asks, and the bytes that it is asked of; 7 where it is empty.
 pub fn asked(input: &[u8]) -> Result<(u8, &[u8]), String> {
@@ -83,8 +87,10 @@ pub fn hexadecimal(bytes: &[u8]) -> String {
 
 /// The whole output for an input.
 pub fn run(input: &[u8]) -> Vec<u8> {
-    if let [migrate::UPGRADE | migrate::DOWNGRADE, ..] = input {
-        return migrate::text(input);
+    match input {
+        [migrate::UPGRADE | migrate::DOWNGRADE, ..] => return migrate::text(input),
+        [SLOW, bytes @ ..] => return slow::text(bytes).into_bytes(),
+        _ => (),
     }
     let text = match Question::read(input) {
         Ok(question) => question.text(&question.list.reduce()),

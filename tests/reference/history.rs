@@ -19,11 +19,11 @@ pub struct Histories {
     /// The form of the store, by whose rule the words are made.
     form: Form,
     topology: Topology,
-    events: Vec<Vec<Event>>,
+    pub events: Vec<Vec<Event>>,
     /// The last finished recovery line: a place in each process's history.
     line: Vec<usize>,
     /// The marks of the round under way.
-    marks: Vec<Option<usize>>,
+    pub marks: Vec<Option<usize>>,
     /// Accepted commits (document 01: finish).
     commits: u32,
 }

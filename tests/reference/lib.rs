@@ -11,6 +11,7 @@ pub mod migrate;
 pub mod program;
 pub mod record;
 pub mod reduce;
+pub mod slow;
 pub mod state;
 pub mod steps;
 pub mod store;

@@ -1,10 +1,11 @@
 //! The programs `head` (document 01) and `drill` (issue 4, item 4): bytes in,
-//! bytes out. `console` and `converter` stand in files of their own.
+//! bytes out. `console`, its slow head and `converter` stand in files of their own.
 
 use crate::console;
 use crate::forms::NEW;
 use crate::migrate;
 use crate::record::{self, Record};
+use crate::slow;
 use crate::state::State;
 use crate::steps::{Answer, Outcome};
 use crate::topology::Topology;
@@ -26,13 +27,15 @@ pub enum Program {
     Console,
     /// As `console` where it is asked for a store; its cells are printed as bytes.
     Converter,
+    /// What `console` is asked by the byte 4, of the bytes after it: the slow head.
+    Slow,
 }
 
 impl Program {
     /// Bytes of standard input that it takes in all.
     pub fn takes(self) -> usize {
         match self {
-            Program::Head | Program::Drill => INPUT,
+            Program::Head | Program::Drill | Program::Slow => INPUT,
             Program::Console | Program::Converter => 1 + INPUT,
         }
     }
@@ -86,13 +89,13 @@ pub fn call(state: &mut State, store: &mut [u32], record: Record, budget: u64) -
     state.step(step, store, budget)
 }
 
-/// The whole output for an input. Nobody looks on while `console` or
-/// `converter` runs.
+/// The whole output for an input. Somebody looks on while `head` or `drill` runs.
 pub fn run(program: Program, input: &[u8], watch: &mut dyn Watch) -> Vec<u8> {
     match program {
         Program::Head | Program::Drill => run_calls(program, input, watch).into_bytes(),
         Program::Console => console::run(input),
         Program::Converter => migrate::file(input),
+        Program::Slow => slow::text(input).into_bytes(),
     }
 }
 
@@ -130,7 +133,7 @@ fn run_calls(program: Program, input: &[u8], watch: &mut dyn Watch) -> String {
 }
 
 /// One line: the call's number, its outcome and the stores made.
-fn print(text: &mut String, number: u32, answer: Answer) {
+pub fn print(text: &mut String, number: u32, answer: Answer) {
     let outcome = match answer.outcome {
         Outcome::Done => "done".to_string(),
         Outcome::Sent(room) => format!("sent {room}"),
@@ -143,13 +146,18 @@ fn print(text: &mut String, number: u32, answer: Answer) {
     let _ = writeln!(text, "{number} {outcome} {}", answer.stores);
 }
 
-/// Each process with its word; each channel with its messages, markers left out.
 fn print_state(text: &mut String, state: &State) {
-    for p in 0..state.topology.processes {
-        let _ = writeln!(text, "board {p} {}", state.words[p]);
+    let channels = 0..state.topology.channels.len();
+    let bodies: Vec<Vec<u32>> = channels.map(|c| state.bodies(c)).collect();
+    print_end(text, &state.words[..state.topology.processes], &bodies);
+}
+
+/// Each process with its word; each channel with its messages, markers left out.
+pub fn print_end(text: &mut String, words: &[u32], channels: &[Vec<u32>]) {
+    for (p, word) in words.iter().enumerate() {
+        let _ = writeln!(text, "board {p} {word}");
     }
-    for c in 0..state.topology.channels.len() {
-        let bodies = state.bodies(c);
+    for (c, bodies) in channels.iter().enumerate() {
         let _ = write!(text, "wire {c} {}", bodies.len());
         for body in bodies {
             let _ = write!(text, " {body}");

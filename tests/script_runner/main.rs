@@ -1,5 +1,5 @@
 //! Runs the scripts: each case through `drill` and the reference, and those that don't limit the current through
-//! `head`, `console` and the reference's own too. A line for each case; the last says how many passed.
+//! `head`, `console`, its slow head and the reference's own too. A line for each case; the last says how many passed.
 //!
 //!     scripts HEAD DRILL CONSOLE FILE ..
 //!     scripts --wrong FILE ..     tests this runner: each answer, made wrong, has to be found on the reference
@@ -8,9 +8,11 @@ mod play;
 #[path = "../compare/runner.rs"]
 mod runner;
 mod script;
+mod slow;
 mod wrong;
 
 use play::{play, Side};
+use reference::console::SLOW;
 use reference::program::{self, Program, Unwatched};
 use script::Case;
 use std::path::Path;
@@ -38,10 +40,15 @@ fn reference_console(input: &[u8]) -> Result<String, String> {
     run_reference(Program::Console, input)
 }
 
-const REFERENCE: [Side; 3] = [
+fn reference_slow(input: &[u8]) -> Result<String, String> {
+    run_reference(Program::Slow, input)
+}
+
+const REFERENCE: [Side; 4] = [
     Side { name: "the reference of drill", program: Program::Drill, run: &reference_drill },
     Side { name: "the reference of head", program: Program::Head, run: &reference_head },
     Side { name: "the reference of console", program: Program::Console, run: &reference_console },
+    Side { name: "the reference's slow head", program: Program::Slow, run: &reference_slow },
 ];
 
 /// Where a case isn't answered as expected, and how: the first such line on each side.
@@ -78,7 +85,8 @@ fn play_all(programs: [&str; 3], files: &[String]) -> Result<(usize, usize), Str
     let run_head = |input: &[u8]| run(head, input);
     let run_drill = |input: &[u8]| run(drill, input);
     let run_console = |input: &[u8]| run(console, input);
-    let [reference_drill, reference_head, reference_console] = REFERENCE;
+    let run_slow = |input: &[u8]| run(console, &[&[SLOW], input].concat());
+    let [reference_drill, reference_head, reference_console, reference_slow] = REFERENCE;
     let sides = [
         Side { name: "drill", program: Program::Drill, run: &run_drill },
         reference_drill,
@@ -86,6 +94,8 @@ fn play_all(programs: [&str; 3], files: &[String]) -> Result<(usize, usize), Str
         reference_head,
         Side { name: "console", program: Program::Console, run: &run_console },
         reference_console,
+        Side { name: "the slow head", program: Program::Slow, run: &run_slow },
+        reference_slow,
     ];
     each(files, |file, text| cases(file, text, &sides))
 }

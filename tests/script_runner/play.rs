@@ -1,8 +1,9 @@
 //! A script on one side: each call is the last of an input that a program is run on, and its answer the last of the
 //! program's numbered lines; a question is answered by what the program prints at its end. `console` is asked of all
-//! calls so far, and answers nothing else.
+//! calls so far, and answers nothing else. The slow head has a file of its own.
 
 use crate::script::{rubbish, Case, Command, Line};
+use crate::slow;
 use reference::console::REDUCE;
 use reference::program::Program;
 use reference::record::{self, Record};
@@ -28,6 +29,9 @@ struct Play<'a> {
 
 /// Plays a case; the line that isn't answered as expected, and why.
 pub fn play(case: &Case, side: &Side) -> Result<(), (usize, String)> {
+    if side.program == Program::Slow {
+        return slow::play(case, side);
+    }
     let mut play = Play {
         side,
         plan: Vec::new(),
@@ -44,7 +48,7 @@ pub fn play(case: &Case, side: &Side) -> Result<(), (usize, String)> {
 }
 
 /// What stands after some first words of a line.
-fn after<'a>(text: &'a str, words: &str) -> Option<&'a str> {
+pub fn after<'a>(text: &'a str, words: &str) -> Option<&'a str> {
     text.lines().find_map(|line| line.strip_prefix(words)?.strip_prefix(' '))
 }
 
@@ -58,8 +62,17 @@ fn accepted(answer: &str) -> bool {
     !answer.starts_with("refused") && !answer.starts_with("cut")
 }
 
+/// Why an answer isn't the one that a line expects.
+pub fn check(line: &Line, answer: &str) -> Result<(), String> {
+    match &line.expected {
+        Some(expected) if expected != answer => Err(format!("but: {answer}")),
+        None if !accepted(answer) => Err(format!("to be accepted, but: {answer}")),
+        _ => Ok(()),
+    }
+}
+
 /// The records of messages that are sent on wire 0 and taken.
-fn messages(n: u32) -> impl Iterator<Item = Vec<u8>> {
+pub fn messages(n: u32) -> impl Iterator<Item = Vec<u8>> {
     let message = |body| [Step::Send { channel: 0, body }, Step::Receive { channel: 0 }];
     (0..n).flat_map(message).map(|step| record::write(Record::Step(step)))
 }
@@ -106,11 +119,7 @@ impl Play<'_> {
         let Some(answer) = self.answer(&line.command)? else {
             return Ok(());
         };
-        match &line.expected {
-            Some(expected) if *expected != answer => Err(format!("but: {answer}")),
-            None if !accepted(&answer) => Err(format!("to be accepted, but: {answer}")),
-            _ => Ok(()),
-        }
+        check(line, &answer)
     }
 
     /// The answer; none where a line has none, or where this side doesn't show it.
@@ -133,7 +142,8 @@ impl Play<'_> {
                 return Ok(Some(shown(format!("cell {cell}")).unwrap_or(rubbish(*cell))));
             }
             Command::Round if drill => return self.round().map(Some),
-            Command::Cell(_) | Command::Round | Command::Part | Command::Rooms => (),
+            Command::Cell(_) | Command::Round => (),
+            Command::Part | Command::Rooms | Command::Slow => (),
         }
         Ok(None)
     }

@@ -19,6 +19,7 @@
 //!     round             the phase, and the last line finished
 //!     part              what `console` keeps of the calls so far: their numbers and the refusal, or its line instead
 //!     rooms             what the sends among these answer (M-104)
+//!     slow              how many lines the slow head prints for the calls so far (M-106); a line alone as it is
 
 use reference::record::{self, Record};
 use reference::steps::Step;
@@ -36,6 +37,7 @@ pub enum Command {
     Round,
     Part,
     Rooms,
+    Slow,
 }
 
 pub struct Line {
@@ -85,7 +87,7 @@ fn read_line(number: usize, text: &str) -> Option<Line> {
     let expected = match (&command, expected) {
         (Command::Plan(_) | Command::Current(_) | Command::Deliver(_), Some(_)) => return None,
         (Command::Board(_) | Command::Wire(_) | Command::Round, None)
-        | (Command::Part | Command::Rooms, None) => return None,
+        | (Command::Part | Command::Rooms | Command::Slow, None) => return None,
         (Command::Cell(cell), Some(value)) if value == "rubbish" => Some(rubbish(*cell)),
         (Command::Cell(_), None) => return None,
         (_, expected) => expected,
@@ -134,6 +136,7 @@ fn read_command(text: &str) -> Option<Command> {
         ("round", Some([])) => Command::Round,
         ("part", Some([])) => Command::Part,
         ("rooms", Some([])) => Command::Rooms,
+        ("slow", Some([])) => Command::Slow,
         _ => return None,
     })
 }

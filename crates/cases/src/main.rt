@@ -1,5 +1,5 @@
-// Cases that no input of the programs can make: a plan, a state or a store is made by hand, and the engine, a reduction
-// or a carrying is called on it.
+// Cases that no input of the programs can make: a plan, a state or a store is made by hand, and the engine, a
+// reduction, a carrying or the slow engine is called on it.
 // A line for each: "ok" or "FAILED", and the papers' sentence, or ours where they have none. The other cases of
 // document 01 are in tests/scripts/. Its words here (docs/VOCABULARY.md): copying and marking are the physical and the
 // logical phase, to copy and to mark a board a process's physical and logical checkpoint, to take a message to receive
@@ -232,6 +232,7 @@ fn main() {
     logged_channels();
     kinds::steps();
     products::unknown_late();
+    products::slow_engine();
     late::copies();
     late::outside_marking();
     late::saved_unmarked();

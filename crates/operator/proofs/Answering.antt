@@ -38,7 +38,7 @@ use Rattle.operator.specs.Printing.{PrintsAnswer}
 use Rattle.operator.proofs.Lines.{plan-line, line}
 
 -- a list of the code is as long as its count
-count-is : (list : CallList) → length (listed list) ≡ list .count
+pub count-is : (list : CallList) → length (listed list) ≡ list .count
 unfolding listed
 count-is list = tabulate-length (list .count) (callAt list)
 

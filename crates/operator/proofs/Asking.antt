@@ -10,10 +10,10 @@ use native.Mathlib.Omega.{arith}
 use Rattle.model.specs.Program.{inputBytes}
 use Rattle.report.proofs.Printing.{whole-text}
 use Rattle.operator.specs.declared.Question.{Question}
-use Rattle.operator.specs.declared.Question.the-variants.{Reduction, Carry, Unknown}
+use Rattle.operator.specs.declared.Question.the-variants.{Reduction, Carry, Replay, Unknown}
 use Rattle.operator.specs.declared.carry.Way.the-variants.{Upgrade, Downgrade}
-use Rattle.operator.specs.Console.{reductionAsked, upgradeAsked, downgradeAsked, askedIn, takenIn}
-use Rattle.operator.specs.Console.{answerTo, console}
+use Rattle.operator.specs.Console.{reductionAsked, upgradeAsked, downgradeAsked, replayAsked, askedIn}
+use Rattle.operator.specs.Console.{takenIn, answerTo, console}
 use Rattle.operator.specs.ConsoleText.{consoleBytes, Tells}
 use Rattle.operator.specs.Printing.{PrintsAnswer}
 
@@ -26,7 +26,8 @@ pub asks : (input : List ℕ) → 1 ≤ length input
     → askedIn input
     ≡ cond (eqb (getD input 0 0) reductionAsked) Reduction
     (cond (eqb (getD input 0 0) upgradeAsked) (Carry Upgrade)
-    (cond (eqb (getD input 0 0) downgradeAsked) (Carry Downgrade) Unknown))
+    (cond (eqb (getD input 0 0) downgradeAsked) (Carry Downgrade)
+    (cond (eqb (getD input 0 0) replayAsked) Replay Unknown)))
 unfolding askedIn
 asks [] l = absurd (omega arith)
 asks (b ∷ bytes) l = refl

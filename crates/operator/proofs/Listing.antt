@@ -42,11 +42,11 @@ abbrev request : Record → Request
 request r = record { content = r; budget = fullBudget }
 
 module _ (bytes : List ℕ) where
-  no-request : readRecord bytes ≡ none → readRequest full bytes ≡ none
+  pub no-request : readRecord bytes ≡ none → readRequest full bytes ≡ none
   unfolding readRequest readBudget andThen
   no-request e = rw e
 
-  a-request : (r : Record) (after : List ℕ) → readRecord bytes ≡ some (r, after)
+  pub a-request : (r : Record) (after : List ℕ) → readRecord bytes ≡ some (r, after)
       → readRequest full bytes ≡ some (request r, after)
   unfolding readRequest readBudget andThen
   a-request r after e = rw e

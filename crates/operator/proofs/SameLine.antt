@@ -17,7 +17,7 @@ use Rattle.report.proofs.Changes.{start-length}
 use Rattle.operator.specs.Carrying.{sourceForm, targetForm, cellsIn, areCells, carriedAnswer, cellsAnswer}
 use Rattle.operator.specs.Carrying.{sourceAnswer, carrying}
 use Rattle.operator.specs.Console.{takenIn, answerTo, console}
-use Rattle.operator.specs.ConsoleAnswer.{ConsoleAnswer, planRefused, refused, reduced, carried}
+use Rattle.operator.specs.ConsoleAnswer.{ConsoleAnswer, planRefused, refused, reduced, carried, replayed}
 use Rattle.operator.specs.ConsoleText.{answerText, lineOf}
 use Rattle.operator.specs.File.{fileText, fileTo, file}
 use Rattle.operator.specs.SameLine.{SameLine}
@@ -30,6 +30,7 @@ begins shown (planRefused n) = take-length _
 begins shown (refused n) = take-length _
 begins shown (reduced plan T calls f) = take-length _
 begins shown (carried target) = refl
+begins shown (replayed output) = take-length _
 
 -- the line of what a carrying comes to, by its refusal
 ended : (r : Option ℕ) (after before after' before' : List ℕ)

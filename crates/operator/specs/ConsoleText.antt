@@ -9,6 +9,7 @@ use Rattle.model.specs.declared.Step.the-variants.{Send, Receive, Begin, Physic
 use Rattle.model.specs.declared.Step.the-variants.{LogicalCheckpoint, SendMarker, Commit, Abort}
 use Rattle.model.specs.Notation.{concatBelow}
 use Rattle.model.specs.Topology.{channelLimit}
+use Rattle.model.specs.Channel.{channelRoom}
 use Rattle.model.specs.Layout.{storeCells}
 use Rattle.model.specs.Record.{writeRecord}
 use Rattle.model.specs.CallList.{listLimit, rooms}
@@ -16,10 +17,12 @@ use Rattle.model.specs.Reduction.{callsAt}
 use Rattle.record.specs.Written.{longest}
 use Rattle.report.specs.Appends.{WholeText}
 use Rattle.report.specs.Hex.{planLineText, keptText, sentText, lastText, refusedText}
-use Rattle.report.specs.Text.{chars, planRefusedText}
+use Rattle.report.specs.Text.{chars, planRefusedText, outputText}
 use Rattle.report.specs.Changed.{changedText}
-use Rattle.report.specs.TextBytes.{planLineBytes, sentBytes, lastBytes, cellBytes}
-use Rattle.operator.specs.ConsoleAnswer.{ConsoleAnswer, planRefused, refused, reduced, carried, PartIn}
+use Rattle.report.specs.TextBytes.{planLineBytes, sentBytes, lastBytes, cellBytes, lineBytes}
+use Rattle.report.specs.Ending.{longestEnding}
+use Rattle.operator.specs.ConsoleAnswer.{ConsoleAnswer, planRefused, refused, reduced, carried, replayed}
+use Rattle.operator.specs.ConsoleAnswer.{PartIn}
 use Rattle.operator.specs.Console.{console}
 
 -- whether a call is a send
@@ -52,13 +55,15 @@ partText call part rooms n =
 abbrev pub doneText : List ℕ
 doneText = chars "done\n"
 
--- the plan's bytes and the part; `done` and the target of a carried store, as it is shown; or one line
+-- the plan's bytes and the part; `done` and the target of a carried store, as it is shown; all that `head` prints, to
+-- the byte (headText of report's specs/Text.antt); or one line
 unfoldable pub answerText : (List ℕ → List ℕ) → ConsoleAnswer → List ℕ → List ℕ
 answerText shown (planRefused n) part = planRefusedText n
 answerText shown (refused n) part = refusedText n
 answerText shown (reduced plan T calls f) part =
     planLineText plan ++ partText (λ i. getD calls i Recover) part (rooms T (callsAt calls part)) (f .number)
 answerText shown (carried target) part = doneText ++ shown target
+answerText shown (replayed output) part = outputText output
 
 -- an answer without a part: its line, with nothing shown of a target
 abbrev pub lineOf : ConsoleAnswer → List ℕ
@@ -78,9 +83,15 @@ partBytes = (listLimit - 1) * sentBytes longest + lastBytes longest
 abbrev pub doneBytes : ℕ
 doneBytes = 5
 
--- the longer of the two long ones: 13,456 bytes for a part, and 143,456 for the cells
+-- a line for each of 256 calls and one where the bytes break off, and the processes and channels, of which none ever
+-- has more than 8 entries
+abbrev pub replayBytes : ℕ
+replayBytes = (listLimit + 1) * lineBytes + longestEnding channelRoom
+
+-- the longest of the three long ones: 13,456 bytes for a part, 17,574 for what `head` prints of a list, and 143,456 for
+-- the cells
 abbrev pub consoleBytes : ℕ
-consoleBytes = max (planLineBytes planBytes + partBytes) (doneBytes + storeCells * cellBytes)
+consoleBytes = max (planLineBytes planBytes + partBytes) (max replayBytes (doneBytes + storeCells * cellBytes))
 
 -- The public promise: the buffer holds the whole of the answer's text, and is otherwise as before. Only which part
 -- comes back, of those that the definition allows, is open.

@@ -9,7 +9,7 @@ use Rattle.model.specs.Layout.{storeCells, cell}
 use Rattle.model.specs.Record.{bodyBytes}
 use Rattle.report.specs.Hex.{refusedText}
 use Rattle.operator.specs.declared.Question.{Question}
-use Rattle.operator.specs.declared.Question.the-variants.{Reduction, Carry, Unknown}
+use Rattle.operator.specs.declared.Question.the-variants.{Reduction, Carry, Replay, Unknown}
 use Rattle.operator.specs.Carrying.{sourceForm, targetForm, carrying}
 use Rattle.operator.specs.Console.{askedIn, takenIn}
 use Rattle.operator.specs.ConsoleAnswer.{ConsoleAnswer}
@@ -28,6 +28,7 @@ unfoldable pub fileTo : Question → List ℕ → List ℕ
 fileTo Reduction bytes = refusedText 7
 fileTo (Carry w) bytes =
     fileText (targetForm w) (carrying (sourceForm w) (targetForm w) bytes (replicate storeCells 0))
+fileTo Replay bytes = refusedText 7
 fileTo Unknown bytes = refusedText 7
 
 unfoldable pub file : List ℕ → List ℕ

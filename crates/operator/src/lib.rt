@@ -5,6 +5,7 @@ mod cells;
 mod list;
 mod print;
 mod reduce;
+mod replay;
 
 use crate::carry::Way;
 use model::Refusal;
@@ -34,10 +35,14 @@ const UPGRADE: u8 = 2;
 
 const DOWNGRADE: u8 = 3;
 
+// A list run by the slow engine (document 02, M-106).
+const REPLAY: u8 = 4;
+
 // What the first byte asks.
 enum Question {
     Reduction,
     Carry(Way),
+    Replay,
     Unknown,
 }
 
@@ -72,6 +77,7 @@ fn asked(input: &[u8]) -> Question
         REDUCTION => Question::Reduction,
         UPGRADE => Question::Carry(Way::Upgrade),
         DOWNGRADE => Question::Carry(Way::Downgrade),
+        REPLAY => Question::Replay,
         _ => Question::Unknown,
     }
 }
@@ -101,6 +107,7 @@ pub fn console(input: &[u8], out: &mut [u8; CONSOLE_BYTES]) -> usize
     match asked(input) {
         Question::Reduction => reduce::reduce(bytes, out),
         Question::Carry(way) => carry::show(way, bytes, out),
+        Question::Replay => replay::replay(bytes, out),
         Question::Unknown => nothing_known(out),
     }
 }
@@ -113,6 +120,7 @@ pub fn convert(input: &[u8], out: &mut [u8; FILE_BYTES]) -> usize
     match asked(input) {
         Question::Reduction => nothing_known(out),
         Question::Carry(way) => carry::file(way, bytes, out),
+        Question::Replay => nothing_known(out),
         Question::Unknown => nothing_known(out),
     }
 }

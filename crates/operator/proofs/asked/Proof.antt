@@ -18,11 +18,19 @@ upgrade c = sym (asks _ (c .before .before .if1 .left) ∙ rw (c .match .keys2))
 downgrade : tie.Need-returns-4
 downgrade c = sym (asks _ (c .before .before .if1 .left) ∙ rw (c .match .keys3))
 
-other : tie.Need-returns-5
+replay : tie.Need-returns-5
+replay c = sym (asks _ (c .before .before .if1 .left) ∙ rw (c .match .keys4))
+
+other : tie.Need-returns-6
 other c =
     let none = c .match .rest in
     sym (asks _ (c .before .before .if1 .left)
-    ∙ rw (ne-eqb _ _ (none .0 .0 .1), ne-eqb _ _ (none .0 .1), ne-eqb _ _ (none .1)))
+    ∙ rw (
+      ne-eqb _ _ (none .0 .0 .0 .1),
+      ne-eqb _ _ (none .0 .0 .1),
+      ne-eqb _ _ (none .0 .1),
+      ne-eqb _ _ (none .1),
+    ))
 
 pub asked-spec : {M : Type 1} → statement M
-asked-spec = tie.close (tie.spec nothing (λ c. search needs) reduction upgrade downgrade other)
+asked-spec = tie.close (tie.spec nothing (λ c. search needs) reduction upgrade downgrade replay other)

@@ -34,14 +34,24 @@ carries c =
     tells (start .args .input .now) (t .taken .ensures) (sym (told .way .given .1) ∙ asked .asked .ensures)
     (omega (arith, start .good)) (c .show .ensures)
 
-unknown : tie.Need-returns-3
+replays : tie.Need-returns-3
+unfolding answerTo
+replays c =
+    let told = c .before .before in
+    let asked = told .before .before in
+    let t = asked .before in
+    let start = t .before .before in
+    tells (start .args .input .now) (t .taken .ensures) (sym (told .enum-told2 .given .1) ∙ asked .asked .ensures)
+    (omega (arith, start .good)) (c .replay .ensures)
+
+unknown : tie.Need-returns-4
 unfolding answerTo
 unknown c =
     let told = c .before .before in
     let asked = told .before .before in
     let t = asked .before in
     let start = t .before .before in
-    tells (start .args .input .now) (t .taken .ensures) (sym (told .enum-told2 .given .1) ∙ asked .asked .ensures)
+    tells (start .args .input .now) (t .taken .ensures) (sym (told .enum-told3 .given .1) ∙ asked .asked .ensures)
     (omega (arith, start .good)) (line (c .nothing-known .ensures))
 
 pub console-spec : {M : Type 1} → statement M
@@ -49,5 +59,6 @@ console-spec =
     tie.close
     (tie.spec (λ c κs. search needs) (λ c κs. search needs) (λ c. search needs)
     (λ c κs. taken-few (c .before .before .before .before)) (λ c. search needs)
-    (λ c κs. taken-few (c .before .before .before .before .before)) (λ c. search needs) (λ c κs. search needs)
-    reduces carries unknown)
+    (λ c κs. taken-few (c .before .before .before .before .before)) (λ c. search needs)
+    (λ c κs. taken-few (c .before .before .before .before)) (λ c. search needs) (λ c κs. search needs)
+    reduces carries replays unknown)

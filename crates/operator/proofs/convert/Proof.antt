@@ -34,9 +34,9 @@ carries c =
     filed (start .args .input .now) (t .taken .ensures) (sym (told .way .given .1) ∙ asked .asked .ensures)
     (whole-text (c .file .ensures) (omega (arith, start .good)))
 
-unknown : tie.Need-returns-3
+replay : tie.Need-returns-3
 unfolding fileTo
-unknown c =
+replay c =
     let told = c .before .before in
     let asked = told .before .before in
     let t = asked .before in
@@ -44,9 +44,19 @@ unknown c =
     filed (start .args .input .now) (t .taken .ensures) (sym (told .enum-told2 .given .1) ∙ asked .asked .ensures)
     (whole-text (c .nothing-known2 .ensures) (omega (arith, start .good)))
 
+unknown : tie.Need-returns-4
+unfolding fileTo
+unknown c =
+    let told = c .before .before in
+    let asked = told .before .before in
+    let t = asked .before in
+    let start = t .before .before in
+    filed (start .args .input .now) (t .taken .ensures) (sym (told .enum-told3 .given .1) ∙ asked .asked .ensures)
+    (whole-text (c .nothing-known3 .ensures) (omega (arith, start .good)))
+
 pub convert-spec : {M : Type 1} → statement M
 convert-spec =
     tie.close
     (tie.spec (λ c κs. search needs) (λ c κs. search needs) (λ c. search needs) (λ c κs. search needs)
     (λ c. search needs) (λ c κs. taken-few (c .before .before .before .before .before)) (λ c. search needs)
-    (λ c κs. search needs) reduction carries unknown)
+    (λ c κs. search needs) (λ c. search needs) (λ c κs. search needs) reduction carries replay unknown)
