@@ -2,7 +2,7 @@
 
 // What a call did, by its answer: its kind, 1 to 9, or 0 where it was not accepted; its process and channel; the body
 // sent or received; whether a marker was received; how many writes it made.
-#[derive(Drop)]
+#[derive(Clone, Copy)]
 pub struct Deed {
     pub kind: u8,
     pub process: u8,
@@ -13,7 +13,7 @@ pub struct Deed {
 }
 
 // Whether an entry goes into the message log of its receiver (board log), and into its channel's log (wire log).
-#[derive(Drop)]
+#[derive(Clone, Copy)]
 pub struct NeededLogs {
     pub message: bool,
     pub channel: bool,

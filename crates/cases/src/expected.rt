@@ -5,7 +5,7 @@ use model::{FULL_BUDGET, Outcome, State, Step};
 
 // An answer as a line of document 01's listing has it: a word, by its first letter, the number after it (0 where there
 // is none), and the writes made.
-#[derive(Drop)]
+#[derive(Clone, Copy)]
 pub struct Told {
     word: u8,
     value: u32,
@@ -87,7 +87,7 @@ pub fn same(a: Told, b: Told) -> bool {
 }
 
 // A trial of steps: the state that it has come to, and whether every answer so far was the expected one.
-#[derive(Drop)]
+#[derive(Clone, Copy)]
 pub struct Trial {
     pub state: State,
     pub ok: bool,

@@ -1,7 +1,7 @@
 -- What the programs serve is a run (the statement is ProgramsAreRuns of specs/ProgramsAreRuns.antt): each request is
 -- served as its call is answered, and by demand 3 every recover on the way says the number of accepted commits.
 use Prim.Native.Nat.{ℕ, suc, ◌+◌, ◌≤◌}
-use mathlib.Core.Path.{◌≡◌, refl, ap, ◌∙◌}
+use mathlib.Core.Path.{◌≡◌, refl, sym, ap, subst, ◌∙◌}
 use mathlib.Core.Bool.{Bool}
 use mathlib.Core.List.{List, [], ◌∷◌, ◌++◌, map}
 use mathlib.Core.Option.{none, or_else}
@@ -61,7 +61,10 @@ module _ (T : Topology) where
         × ((from n w requests).store ≡ (run T w (map call_of requests)).store)
     unfolding session run line_then
     state_is_lem n w [] = (refl, refl)
-    state_is_lem n w (r ∷ rs) = rw (serves_on n w r rs) (state_is_lem (n + 1) (next T w (call_of r)) rs)
+    state_is_lem n w (r ∷ rs) =
+        let after : World = run T (next T w (call_of r)) (map call_of rs) in
+        subst (λ (q : Session). (q.state ≡ after.state) × (q.store ≡ after.store)) (sym (serves_on n w r rs))
+        (state_is_lem (n + 1) (next T w (call_of r)) rs)
 
   -- what every recover says
   told : topology_refusal T ≡ none → (w : World) → InvOf T w → (calls : List Call)

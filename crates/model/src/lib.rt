@@ -12,7 +12,7 @@ pub const PLACES: usize = 8;
 // Document 01's plan: how many processes (boards) and channels (wires) there are, and the two ends of each channel.
 // Document 02, M-105: bit p of `late` stands where process p is late, that is, has its physical checkpoint after the
 // logical one.
-#[derive(Drop)]
+#[derive(Clone, Copy)]
 pub struct Topology {
     pub processes: u8,
     pub channels: u8,
@@ -23,7 +23,7 @@ pub struct Topology {
 
 // Document 01's round: idle, copying (the physical phase, with the next process to checkpoint), marking (the
 // logical phase).
-#[derive(Drop)]
+#[derive(Clone, Copy)]
 pub enum Phase {
     Idle,
     Physical(u8),
@@ -31,14 +31,14 @@ pub enum Phase {
 }
 
 // The last recovery line finished (document 01's k), and the phase of the round after it.
-#[derive(Drop)]
+#[derive(Clone, Copy)]
 pub struct Round {
     pub line: u32,
     pub phase: Phase,
 }
 
 // What a channel holds: a message with the tag its sender had, or a marker (document 01's note).
-#[derive(Drop)]
+#[derive(Clone, Copy)]
 pub enum Entry {
     Message { body: u32, tag: bool },
     Marker,
@@ -46,7 +46,7 @@ pub enum Entry {
 
 // A channel's 8 places, first in first out from place 0. Kind 0 is a message tagged 0, kind 1 a message tagged 1,
 // and any other kind a marker.
-#[derive(Drop)]
+#[derive(Clone, Copy)]
 pub struct Places {
     pub bodies: [u32; PLACES],
     pub kinds: [u8; PLACES],
@@ -54,7 +54,7 @@ pub struct Places {
 
 // A channel by value: its places, and how many are used. Places from count on are unused. (A state has its channels'
 // lengths in an array of their own, since every step looks through them.)
-#[derive(Drop)]
+#[derive(Clone, Copy)]
 pub struct Channel {
     pub bodies: [u32; PLACES],
     pub kinds: [u8; PLACES],
@@ -63,7 +63,7 @@ pub struct Channel {
 
 // What a receive brings: the channel (document 02's wire) that a message came on, and its body. A cell of the store can
 // hold any number, so a receipt read from there may name a channel that is none.
-#[derive(Drop)]
+#[derive(Clone, Copy)]
 pub struct Receipt {
     pub channel: u32,
     pub body: u32,
@@ -71,7 +71,7 @@ pub struct Receipt {
 
 // The receiver of an entry as it finds it: its number, whether it is late, whether it has its logical checkpoint and,
 // being late, its physical one in this round, and its tag.
-#[derive(Drop)]
+#[derive(Clone, Copy)]
 pub struct Receiver {
     pub process: u8,
     pub late: bool,
@@ -83,7 +83,7 @@ pub struct Receiver {
 // What the round under way has done: the processes that have their logical checkpoint (marked boards), the late ones
 // that have their physical checkpoint too (late boards copied), the channels that are closed, and those on which the
 // marker was sent (note put).
-#[derive(Drop)]
+#[derive(Clone, Copy)]
 pub struct Flags {
     pub logical: [bool; PROCESSES],
     pub saved: [bool; PROCESSES],
@@ -92,13 +92,13 @@ pub struct Flags {
 }
 
 // How many entries the message log of each process and the channel log of each channel has.
-#[derive(Drop)]
+#[derive(Clone, Copy)]
 pub struct Counts {
     pub messages: [u8; PROCESSES],
     pub channels: [u8; CHANNELS],
 }
 
-#[derive(Drop)]
+#[derive(Clone, Copy)]
 pub struct State {
     pub topology: Topology,
     pub round: Round,
@@ -111,7 +111,7 @@ pub struct State {
 }
 
 // Steps 1 to 8 of document 01, in its order: send, take, begin, copy, mark, note, finish, give up.
-#[derive(Drop)]
+#[derive(Clone, Copy)]
 pub enum Step {
     Send { channel: u8, body: u32 },
     Receive { channel: u8 },
@@ -124,7 +124,7 @@ pub enum Step {
 }
 
 // A record's content: a step, or kind 9, the recover (document 01's restart).
-#[derive(Drop)]
+#[derive(Clone, Copy)]
 pub enum Record {
     Call(Step),
     Recover,
@@ -132,7 +132,7 @@ pub enum Record {
 
 // A list of calls (document 02's step list): place i is its i-th call, and a list is as long as its count says. Places
 // from count on are unused.
-#[derive(Drop)]
+#[derive(Clone, Copy)]
 pub struct Listed {
     pub content: Record,
 }
@@ -140,14 +140,14 @@ pub struct Listed {
 // "at most 256 steps, restarts included"
 pub const LISTED: usize = 256;
 
-#[derive(Drop)]
+#[derive(Clone, Copy)]
 pub struct CallList {
     pub calls: [Listed; LISTED],
     pub count: u16,
 }
 
 // The refusals of documents 01 and 02, in the order of their numbers, 1 to 19.
-#[derive(Drop)]
+#[derive(Clone, Copy)]
 pub enum Refusal {
     ProcessCount,
     ChannelCount,
@@ -171,7 +171,7 @@ pub enum Refusal {
 }
 
 // What checks say: everything passes, or the first refusal.
-#[derive(Drop)]
+#[derive(Clone, Copy)]
 pub enum Verdict {
     Pass,
     Refuse(Refusal),
@@ -179,7 +179,7 @@ pub enum Verdict {
 
 // What a step answers: done; a message sent, with how many entries its channel can still hold; a message received
 // (took), with its body; a marker received (note); refused; or the power was lost (cut).
-#[derive(Drop)]
+#[derive(Clone, Copy)]
 pub enum Outcome {
     Done,
     Sent(u8),
@@ -193,7 +193,7 @@ pub enum Outcome {
 pub const FULL_BUDGET: u32 = u32::MAX;
 
 // A step's answer: its outcome, how many writes it made, and the state after it.
-#[derive(Drop)]
+#[derive(Clone, Copy)]
 pub struct Answer {
     pub outcome: Outcome,
     pub made: u32,
@@ -201,13 +201,13 @@ pub struct Answer {
 }
 
 // What initialize and recover (document 01's setup and restart) answer.
-#[derive(Drop)]
+#[derive(Clone, Copy)]
 pub enum Start {
     Ready,
     Refused(Refusal),
 }
 
-#[derive(Drop)]
+#[derive(Clone, Copy)]
 pub struct Started {
     pub start: Start,
     pub state: State,

@@ -20,14 +20,14 @@ use reading::form::OLD_STORE_CELLS;
 use rules::layout::STORE_CELLS;
 
 // To the new form, or back.
-#[derive(Drop)]
+#[derive(Clone, Copy)]
 pub enum Way {
     Upgrade,
     Downgrade,
 }
 
 // How a carrying ends: the plan is refused, the carrying is, or the target holds the store.
-#[derive(Drop)]
+#[derive(Clone, Copy)]
 pub enum Ending {
     PlanRefused(Refusal),
     Refused(Refusal),

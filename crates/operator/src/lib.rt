@@ -39,7 +39,7 @@ const DOWNGRADE: u8 = 3;
 const REPLAY: u8 = 4;
 
 // What the first byte asks.
-#[derive(Drop)]
+#[derive(Clone, Copy)]
 enum Question {
     Reduction,
     Carry(Way),

@@ -7,7 +7,7 @@ use model::{CallList, LISTED, Listed, Record};
 use record::RecordRead;
 
 // The list that bytes hold, and whether the bytes after its calls aren't a record.
-#[derive(Drop)]
+#[derive(Clone, Copy)]
 pub struct ListRead {
     pub list: CallList,
     pub broken: bool,

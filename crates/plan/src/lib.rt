@@ -20,7 +20,7 @@ const MAP: usize = 2;
 
 // What bytes begin with: whether their plan passes its checks, and the plan; where it is refused, the blank one. (An
 // enum can't hold the arrays of a topology.)
-#[derive(Drop)]
+#[derive(Clone, Copy)]
 pub struct PlanRead {
     pub verdict: Verdict,
     pub topology: Topology,

@@ -9,7 +9,7 @@ use model::Receipt;
 use rules::{layout, word};
 
 // Document 01's store, and that of document 02's M-101.
-#[derive(Drop)]
+#[derive(Clone, Copy)]
 pub enum Form {
     Old,
     Present,

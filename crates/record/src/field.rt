@@ -15,7 +15,7 @@ pub const BODY: u8 = 8;
 pub const MAPS: u8 = 2 * BODY;
 
 // A field's value and where the bytes after it start, or that the bytes don't read as one.
-#[derive(Drop)]
+#[derive(Clone, Copy)]
 pub enum Field {
     Value(u32, usize),
     Broken,

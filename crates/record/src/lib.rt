@@ -17,14 +17,14 @@ pub use kind::step_of;
 use model::{Record, Refusal, Step};
 
 // What bytes begin with: a record, or refusal 7.
-#[derive(Drop)]
+#[derive(Clone, Copy)]
 pub enum RecordRead {
     Read(Record),
     Refused(Refusal),
 }
 
 // What a kind is with its fields: a step, or refusal 7.
-#[derive(Drop)]
+#[derive(Clone, Copy)]
 pub enum StepRead {
     Read(Step),
     Refused(Refusal),
@@ -37,7 +37,7 @@ pub const RECOVER: u8 = 9;
 pub const LONGEST: usize = 7;
 
 // A record's bytes and how many they are; 0 in the places after them.
-#[derive(Drop)]
+#[derive(Clone, Copy)]
 pub struct Written {
     pub bytes: [u8; LONGEST],
     pub count: usize,

@@ -8,7 +8,7 @@ use crate::{RecordRead, field, kind};
 use model::Refusal;
 
 // What the bytes begin with, and where the bytes after it start: at 0 where it is refused.
-#[derive(Drop)]
+#[derive(Clone, Copy)]
 pub struct Parsed {
     pub reading: RecordRead,
     pub next: usize,

@@ -14,7 +14,7 @@ use reading::form::Form;
 use rules::{channel, fresh, late};
 
 // The channels of a state, filled: their places, and how many of each are used.
-#[derive(Drop)]
+#[derive(Clone, Copy)]
 struct Filled {
     places: [Places; CHANNELS],
     lengths: [u8; CHANNELS],

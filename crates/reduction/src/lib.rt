@@ -13,7 +13,7 @@ use model::{CallList, LISTED, Refusal, Topology, Verdict};
 pub use part::Part;
 
 // What is answered: the place of the list's first refused call, counted from 0, and its refusal; or why there is none.
-#[derive(Drop)]
+#[derive(Clone, Copy)]
 pub enum Finding {
     Failure(u16, Refusal),
     Refused(Refusal),
@@ -21,7 +21,7 @@ pub enum Finding {
 
 // With it comes a smallest part that fails so; the empty part where there is none. And how much room each call of the
 // part said is left: 0 for one that is no send, for the last one, and in the places after.
-#[derive(Drop)]
+#[derive(Clone, Copy)]
 pub struct Reduced {
     pub found: Finding,
     pub part: Part,

@@ -7,7 +7,7 @@ ghost use Rattle.reduction.specs.Parts.{kept, part_of, Held, without_block, past
 use model::LISTED;
 
 // The places of its calls in the list, and how many they are; 0 in the places after them.
-#[derive(Drop)]
+#[derive(Clone, Copy)]
 pub struct Part {
     pub places: [u8; LISTED],
     pub count: u16,

@@ -14,14 +14,14 @@ use rules::layout::STORE_CELLS;
 use rules::refusal::number;
 
 // How a run ends: at a refused call, which is the part's i-th, counted from 0; or with none refused.
-#[derive(Drop)]
+#[derive(Clone, Copy)]
 pub enum End {
     Refused(u16, Refusal),
     Through,
 }
 
 // With it comes how much room each call before that said is left: 0 for one that is no send, and in the places after.
-#[derive(Drop)]
+#[derive(Clone, Copy)]
 pub struct Replayed {
     pub end: End,
     pub rooms: [u8; LISTED],

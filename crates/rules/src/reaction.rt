@@ -10,7 +10,7 @@ use model::{Entry, Outcome, Phase, Receipt, Receiver};
 
 // Whether the receiver gets its logical checkpoint first (is marked), whether the channel is closed, and the logs that
 // it goes into, one or both, in this order. specs/Reacting.antt has its meaning.
-#[derive(Drop)]
+#[derive(Clone, Copy)]
 pub struct Reaction {
     pub logical_first: bool,
     pub closes: bool,

@@ -7,7 +7,7 @@ use model::{FULL_BUDGET, Record};
 use record::RecordRead;
 
 // Where a call's budget comes from: full current, or 4 bytes before each record.
-#[derive(Drop)]
+#[derive(Clone, Copy)]
 pub enum BudgetSource {
     Full,
     Given,
@@ -16,14 +16,14 @@ pub enum BudgetSource {
 // How many bytes a given budget has.
 const BUDGET_BYTES: usize = 4;
 
-#[derive(Drop)]
+#[derive(Clone, Copy)]
 enum Budget {
     Lasts(u32),
     Malformed,
 }
 
 // What bytes begin with: a request, or refusal 7.
-#[derive(Drop)]
+#[derive(Clone, Copy)]
 pub enum RequestRead {
     Read(Record, u32),
     Malformed,

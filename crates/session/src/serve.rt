@@ -11,7 +11,7 @@ use crate::request::{BudgetSource, RequestRead};
 use model::{Outcome, Record, Refusal, Start, State, Topology};
 
 // Where a session stands: the number of its next line, where that goes, and the state that its request is served in.
-#[derive(Drop)]
+#[derive(Clone, Copy)]
 pub struct Cursor {
     pub number: u32,
     pub at: usize,

@@ -4,7 +4,7 @@ ghost use Rattle.std.specs.Prelude.{◌<◌, get_or, ◌≡◌};
 ghost use Rattle.model.specs.History.{add_event, mark_now, mark_or, no_marks, on_commit, on_recover};
 ghost use Rattle.slow.specs.Seen.{Becomes, Starts, Finished, event_of, mark_of, mark_if, has_mark_in, Whole};
 
-#[derive(Drop)]
+#[derive(Clone, Copy)]
 pub struct Histories {
     pub entries: [u8; 4096],
     pub counts: [u16; 16],

@@ -30,13 +30,13 @@ use model::{
 };
 
 // What a call of a list is answered: a step's outcome, or the line of a recover, and how many writes it made.
-#[derive(Drop)]
+#[derive(Clone, Copy)]
 pub enum CallOutcome {
     Step(Outcome),
     Line(u32),
 }
 
-#[derive(Drop)]
+#[derive(Clone, Copy)]
 pub struct CallAnswer {
     pub outcome: CallOutcome,
     pub made: u32,
@@ -44,7 +44,7 @@ pub struct CallAnswer {
 
 // The answer to each call, in the list's order, and the state after the last; or the refusal, no answer, and a state of
 // no topology. Places from count on are unused: Done, and 0 writes.
-#[derive(Drop)]
+#[derive(Clone, Copy)]
 pub struct Replayed {
     pub verdict: Verdict,
     pub answers: [CallAnswer; LISTED],

@@ -13,7 +13,7 @@ use account::Deed;
 use model::{LISTED, Listed, Outcome, Record, Step};
 
 // The first count of these.
-#[derive(Drop)]
+#[derive(Clone, Copy)]
 pub struct Past {
     pub deeds: [Deed; LISTED],
     pub count: u16,

@@ -11,7 +11,7 @@ use crate::past::Past;
 use crate::{contents, feed, histories, round, told};
 use model::{CHANNELS, Counts, Flags, PLACES, PROCESSES, Places, Round, State, Topology};
 
-#[derive(Drop)]
+#[derive(Clone, Copy)]
 struct ProcessParts {
     words: [u32; PROCESSES],
     tags: [bool; PROCESSES],
@@ -20,7 +20,7 @@ struct ProcessParts {
     messages: [u8; PROCESSES],
 }
 
-#[derive(Drop)]
+#[derive(Clone, Copy)]
 struct ChannelParts {
     places: [Places; CHANNELS],
     lengths: [u8; CHANNELS],

@@ -5,7 +5,7 @@ use model::{Answer, FULL_BUDGET, Outcome, Topology};
 use record::StepRead;
 use rules::layout::STORE_CELLS;
 
-#[derive(Drop)]
+#[derive(Clone, Copy)]
 struct Tally {
     sum: u32,
     state: model::State,

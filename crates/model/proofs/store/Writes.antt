@@ -112,6 +112,7 @@ still_zero st (w ∷ ws) a z l e = still_zero (write st w) ws a z.1 (still_in st
 pub zeroed : (st : List ℕ) (ws : List Write) (a : ℕ) → Zeros ws → a < length st → Memᴰ (zero_into a) ws
     → cell (write_all st ws) a ≡ 0
 unfolding write_all
+zeroed st [] a z l m = elim m [ ]
 zeroed st (w ∷ ws) a z l (Memᴰ.head q) =
     still_zero (write st w) ws a z.1 (still_in st w a l)
     (subst (λ (v : Write). cell (write st v) a ≡ 0) q (written st (zero_into a) l))
