@@ -5,12 +5,12 @@ use Rattle.model.proofs.laws.ChannelLaws.{at_past}
 use Rattle.rules.proofs.channel.entry_at.Statement.{statement}
 use Rattle.rules.proofs.channel.entry_at.Tie as tie
 
-past : tie.Need-returns
+past : tie.Need-returns-then-i-ge-PLACES
 past c =
-    let a = c.before.before.args in
-    let kinds : length a.t1.kinds ≡ array_places = search rules in
-    let bodies : length a.t1.bodies ≡ array_places = search rules in
-    c.entry_of.ensures ∙ sym (at_past a.t1 a.i (omega arith) (omega arith))
+    let a = c.args in
+    let kinds : length a.c.kinds ≡ array_places = search rules in
+    let bodies : length a.c.bodies ≡ array_places = search rules in
+    c.entry_of.ensures ∙ sym (at_past a.c a.i (omega arith) (omega arith))
 
 pub entry_at_spec : {M : Type 1} → statement M
 entry_at_spec =

@@ -6,18 +6,18 @@ use Rattle.rules.specs.Placing.{placed}
 use Rattle.rules.proofs.channel.extend.Statement.{statement}
 use Rattle.rules.proofs.channel.extend.Tie as tie
 
-past : tie.Need-returns
+past : tie.Need-returns-then-c-ge-PLACES
 unfolding placed
 past c =
-    let a = c.before.before.before.args in
+    let a = c.args in
     let kinds : length a.c.kinds ≡ array_places = search rules in
     let bodies : length a.c.bodies ≡ array_places = search rules in
     (rw (le-ltb a.c.count array_places (omega arith)) (extended_past a.c (omega arith) (omega arith)), refl)
 
-within : tie.Need-returns-2
+within : tie.Need-returns
 unfolding placed
 within c =
-    let a = c.before.before.before.before.args in (
+    let a = c.args in (
       rw (lt-ltb a.c.count array_places (omega arith))
           (extended a.c a.kind a.body (search rules) (search rules)),
       refl,

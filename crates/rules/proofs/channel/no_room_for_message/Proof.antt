@@ -6,4 +6,4 @@ use Rattle.rules.proofs.channel.no_room_for_message.Tie as tie
 
 pub no_room_for_message_spec : {M : Type 1} → statement M
 unfolding no_room_for_message
-no_room_for_message_spec = tie.close (tie.spec (λ c κs. search rules) (λ c. rw c.room.ensures))
+no_room_for_message_spec = tie.close (tie.spec (λ c κs. search rules) (λ c. rw c.room-left.ensures))

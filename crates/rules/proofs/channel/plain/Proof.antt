@@ -23,51 +23,51 @@ module _ (c : Channel) (kinds : length c.kinds ≡ array_places) (places : lengt
       let zero : b ≡ 0 = ap body_of (h ∙ at_past c i (omega (arith, kinds, past)) (omega (arith, places, past))) in
       rw (x, zero)
 
-abbrev invariant-loop : tie.invariant-loop
+abbrev invariant-loop : tie.invariant-loop-i
 invariant-loop c all r₀ i₀ r i =
     (i ≤ all) × (r.count ≤ i) × (entries r ≡ messages false (bodies_below i c)) × (all ≡ c.count)
 
-abbrev decreases-loop : tie.decreases-loop
+abbrev decreases-loop : tie.decreases-loop-i
 decreases-loop c all r₀ i₀ r i = all - i
 
-loop-holds : tie.Need-loop-init invariant-loop decreases-loop
+loop-holds : tie.Need-loop-i-init invariant-loop decreases-loop
 unfolding entries tabulate messages bodies
 loop-holds c =
-    let all = c.before.length.ensures ∙ entries_count c.before.before.args.c in
-    rw c.empty.ensures (omega arith, omega arith, refl, all)
+    let all = c.length-entries.ensures ∙ entries_count c.args.c in
+    rw c.empty-r.ensures (omega arith, omega arith, refl, all)
 
-loop-again : tie.Need-loop-preserved invariant-loop decreases-loop
+loop-again : tie.Need-loop-i-preserved invariant-loop decreases-loop
 unfolding messages
 loop-again c =
     let read = c.before in
-    let l = read.before.before.loop in
-    let from = read.before.before.before.before.before.args.c in
+    let l = read.loop-i in
+    let from = read.args.c in
     let kinds : length from.kinds ≡ array_places = search rules in
     let places : length from.bodies ≡ array_places = search rules in
     ⊎_elim
     (λ w.
-    let stood = sym w.1.given.1 ∙ read.entry_at.ensures in
-    rw w.4 (
+    let stood = sym w.in-Message.is ∙ read.entry_at.ensures in
+    rw w.r-is (
       omega arith,
-      omega (arith, w.3.ensures.1),
-      w.3.ensures.0
+      omega (arith, w.extend-r.ensures.1),
+      w.extend-r.ensures.0
           ∙ simp (put from kinds places _ l.i l.invariant.1 stood (test _), l.invariant.2, message_more from l.i stood)
           (sym (messages_append false (bodies_below l.i from) _)),
       l.invariant.3,
     ))
-    (λ w. rw w.2 (
+    (λ w. rw w.r-is (
       omega arith,
       omega arith,
-      l.invariant.2 ∙ rw (marker_more from l.i (sym w.1.given.1 ∙ read.entry_at.ensures)),
+      l.invariant.2 ∙ rw (marker_more from l.i (sym w.in_default.is ∙ read.entry_at.ensures)),
       l.invariant.3,
     ))
-    c.match.branch
+    c.match-entry_at.branch-raw
 
 returns : tie.Need-returns invariant-loop decreases-loop
 unfolding entries
 returns c =
-    let l = c.before.loop in
-    let e : l.i ≡ c.before.before.before.before.args.c.count = omega arith in
+    let l = c.loop-i in
+    let e : l.i ≡ c.args.c.count = omega arith in
     rw e at l.invariant.2
 
 pub plain_spec : {M : Type 1} → statement M

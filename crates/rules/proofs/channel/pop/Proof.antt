@@ -51,40 +51,40 @@ all_moved c r i w l h j = go (test (ltb j i))
         let past : i ≤ j = ltb-false j i t in
         h.above j past ∙ sym (at_past c (j + 1) (omega (arith, w.0)) (omega (arith, w.1)))
 
-abbrev invariant-loop : tie.invariant-loop
+abbrev invariant-loop : tie.invariant-loop-i
 invariant-loop c r₀ i₀ r i = (i < array_places) × Whole r × (r.count ≡ c.count - 1) × Moved c r i
 
-abbrev decreases-loop : tie.decreases-loop
+abbrev decreases-loop : tie.decreases-loop-i
 decreases-loop c r₀ i₀ r i = array_places - i
 
-loop-holds : tie.Need-loop-init invariant-loop decreases-loop
+loop-holds : tie.Need-loop-i-init invariant-loop decreases-loop
 unfolding no_places
 loop-holds c =
-    rw c.empty.ensures (
+    rw c.empty-r.ensures (
       omega arith,
       (refl, refl),
       refl,
       record { below = λ j l. absurd (omega arith); above = λ j l. at_blank j },
     )
 
-loop-again : tie.Need-loop-preserved invariant-loop decreases-loop
+loop-again : tie.Need-loop-i-preserved invariant-loop decreases-loop
 loop-again c =
-    let l = c.before.before.before.loop in
-    let from = c.before.before.before.before.before.before.args.t1 in (
+    let l = c.loop-i in
+    let from = c.args.c in (
       omega arith,
       (simp length-set l.invariant.1.0, simp length-set l.invariant.1.1),
       l.invariant.2,
       moved from l.r l.i l.invariant.1 l.invariant.0 l.invariant.3,
     )
 
-none_left : tie.Need-returns invariant-loop decreases-loop
+none_left : tie.Need-returns-then-c-eq0 invariant-loop decreases-loop
 unfolding entries tabulate
-none_left c = rw c.if1.true
+none_left c = rw c.if-c-eq0.true
 
-popped : tie.Need-returns-2 invariant-loop decreases-loop
+popped : tie.Need-returns invariant-loop decreases-loop
 popped c =
-    let l = c.before.loop in
-    let from = c.before.before.before.before.args.t1 in
+    let l = c.loop-i in
+    let from = c.args.c in
     let whole : Whole from = search rules in
     entries_rest from (omega arith) _ l.invariant.2
     (λ j k. all_moved from l.r l.i whole (omega arith) l.invariant.3 j)

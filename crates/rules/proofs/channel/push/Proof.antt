@@ -19,23 +19,23 @@ put c k b e l same =
       lt-ltb (length (entries c)) array_places (omega (arith, entries_count c, l)),
     )
 
-no_place : tie.Need-returns
+no_place : tie.Need-returns-then-c-ge-PLACES
 unfolding pushed
 no_place c =
-    let x = c.before.before.args.c in
+    let x = c.args.c in
     rw (le-ltb (length (entries x)) array_places (omega (arith, entries_count x)))
 
-tagged : tie.Need-returns-2
+tagged : tie.Need-returns-then-tag
 unfolding entry_of
 tagged c = c.extend.ensures.0 ∙ put _ 1 _ _ (omega arith) cc
 
-plain : tie.Need-returns-3
+plain : tie.Need-returns-else-tag
 unfolding entry_of
-plain c = c.extend2.ensures.0 ∙ put _ 0 _ _ (omega arith) cc
+plain c = c.extend-else-tag.ensures.0 ∙ put _ 0 _ _ (omega arith) cc
 
-marker : tie.Need-returns-4
+marker : tie.Need-returns-in-Marker
 unfolding entry_of
-marker c = c.extend3.ensures.0 ∙ put _ 2 0 _ (omega arith) cc
+marker c = c.extend-in-Marker.ensures.0 ∙ put _ 2 0 _ (omega arith) cc
 
 pub push_spec : {M : Type 1} → statement M
 push_spec =

@@ -5,10 +5,10 @@ use Rattle.model.proofs.laws.Bits.{bit_beyond}
 use Rattle.rules.proofs.late.is_late.Statement.{statement}
 use Rattle.rules.proofs.late.is_late.Tie as tie
 
-beyond : tie.Need-returns
+beyond : tie.Need-returns-then-p-ge-MAP_BITS
 beyond c = sym (bit_beyond _ 16 _ (omega arith) (omega arith))
 
-within : tie.Need-returns-2
+within : tie.Need-returns
 unfolding bit_of
 within c = refl
 

@@ -5,15 +5,15 @@ use native.Mathlib.Nat.{pow-le-pow_right, div-eq_of_lt}
 use Rattle.rules.proofs.late.known.Statement.{statement}
 use Rattle.rules.proofs.late.known.Tie as tie
 
-all_known : tie.Need-returns
+all_known : tie.Need-returns-then-processes-ge-MAP_BITS
 all_known c =
-    let a = c.before.args in
+    let a = c.args in
     let wide : 16 ≤ a.processes = omega arith in
     let high : 2 ^ 16 ≤ 2 ^ a.processes = pow-le-pow_right (omega arith) wide in
     let low : a.late < 2 ^ a.processes = omega (arith, high) in
     rw (div-eq_of_lt low)
 
-within : tie.Need-returns-2
+within : tie.Need-returns
 within c = refl
 
 pub known_spec : {M : Type 1} → statement M

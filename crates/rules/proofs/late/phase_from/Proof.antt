@@ -20,35 +20,35 @@ one_more {late} {from} {p} h e =
     go q a b (same i) = rw i e
     go q a b (other o) = h.over q a (omega (arith, o))
 
-abbrev invariant-loop : tie.invariant-loop
+abbrev invariant-loop : tie.invariant-loop-p
 invariant-loop processes late from p₀ p = PassedOver late from p
 
-abbrev decreases-loop : tie.decreases-loop
+abbrev decreases-loop : tie.decreases-loop-p
 decreases-loop processes late from p₀ p = processes - p
 
-loop-holds : tie.Need-loop-init invariant-loop decreases-loop
+loop-holds : tie.Need-loop-p-init invariant-loop decreases-loop
 loop-holds c = record { start = omega arith; over = λ q a b. absurd (omega arith) }
 
 -- the process at hand is early
-found : tie.Need-returns invariant-loop decreases-loop
+found : tie.Need-returns-then-not-is_late invariant-loop decreases-loop
 unfolding phase_at
 found c =
     let asked = c.before in
     let turn = asked.before in
-    let l = turn.before.loop in
-    rw (early_at _ _ _ l.p l.invariant.over l.invariant.start turn.loop-test.true
-    (sym asked.is-late.ensures ∙ not-true _ c.if1.true))
+    let l = turn.loop-p in
+    rw (early_at _ _ _ l.p l.invariant.over l.invariant.start turn.loop-p-test.true
+    (sym asked.is_late.ensures ∙ not-true _ c.if-not-is_late.true-raw))
 
-loop-again : tie.Need-loop-preserved invariant-loop decreases-loop
+loop-again : tie.Need-loop-p-preserved invariant-loop decreases-loop
 loop-again c =
     let asked = c.before in
-    one_more asked.before.before.loop.invariant (sym asked.is-late.ensures ∙ not-false _ c.if1.false)
+    one_more asked.loop-p.invariant (sym asked.is_late.ensures ∙ not-false _ c.if-not-is_late.false-raw)
 
 -- all are late
-none_found : tie.Need-returns-2 invariant-loop decreases-loop
+none_found : tie.Need-returns invariant-loop decreases-loop
 unfolding phase_at
 none_found c =
-    let l = c.before.loop in rw (early_none _ _ _ l.p l.invariant.over c.loop-test.false)
+    let l = c.loop-p in rw (early_none _ _ _ l.p l.invariant.over c.loop-p-test.false)
 
 pub phase_from_spec : {M : Type 1} → statement M
 phase_from_spec =

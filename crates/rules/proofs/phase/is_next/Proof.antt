@@ -7,4 +7,4 @@ pub is_next_spec : {M : Type 1} → statement M
 is_next_spec =
     tie.close
     (tie.spec (λ c. search rules) (λ c. search rules) (λ c. search rules) (λ c. search rules)
-    (λ c. rw c.before.phase.given.1) (λ c. search rules))
+    (λ c. rw c.in-Physical.is) (λ c. search rules))

@@ -7,4 +7,4 @@ use Rattle.rules.proofs.reaction.outcome.Tie as tie
 pub outcome_spec : {M : Type 1} → statement M
 unfolding received_outcome
 outcome_spec =
-    tie.close (tie.spec (λ c. search rules) (λ c. search rules) (λ c. rw c.before.e.given.1) (λ c. search rules))
+    tie.close (tie.spec (λ c. search rules) (λ c. search rules) (λ c. rw c.in-Message.is) (λ c. search rules))

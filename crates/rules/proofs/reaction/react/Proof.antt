@@ -5,37 +5,37 @@ use Rattle.rules.specs.Reacting.{view_reaction}
 use Rattle.rules.proofs.reaction.react.Statement.{statement}
 use Rattle.rules.proofs.reaction.react.Tie as tie
 
-idle-message : tie.Need-returns
+idle-message : tie.Need-returns-in-Idle
 unfolding view_reaction reaction_to logs_only
-idle-message c channel = rw (c.logs.ensures, c.before.enum_told.given.1)
+idle-message c channel = rw (c.logs.ensures, c.in-Idle.is)
 
-physical-message : tie.Need-returns-2
+physical-message : tie.Need-returns-in-Physical
 unfolding view_reaction reaction_to logs_only
 physical-message c channel =
-    let told = c.before.before.before.before in
-    rw (c.logs2.ensures, told.phase.given.1, told.before.before.before.e.given.1)
+    let told = c in
+    rw (c.logs-in-Physical.ensures, told.in-Physical.is, told.in-Message.is)
 
-logical-message : tie.Need-returns-3
+logical-message : tie.Need-returns-in-Logical
 unfolding view_reaction reaction_to
 logical-message c channel =
     let asked = c.before.before in
     let told = asked.before.before.before in
-    rw (asked.in-message-log.ensures, told.enum-told2.given.1, told.before.before.before.e.given.1)
+    rw (asked.in_message_log-message_log.ensures, told.in-Logical.is, told.in-Message.is)
 
-idle-marker : tie.Need-returns-4
+idle-marker : tie.Need-returns-in-Idle-phase
 unfolding view_reaction reaction_to logs_only
-idle-marker c channel = rw (c.logs3.ensures, c.before.enum-told4.given.1)
+idle-marker c channel = rw (c.logs-in-Idle-phase.ensures, c.in-Idle-phase.is)
 
-physical-marker : tie.Need-returns-5
+physical-marker : tie.Need-returns-in-Physical-phase
 unfolding view_reaction reaction_to logs_only
 physical-marker c channel =
     let told = c.before in
-    rw (c.logs4.ensures, told.enum-told5.given.1, told.before.before.enum-told3.given.1)
+    rw (c.logs-in-Physical-phase.ensures, told.in-Physical-phase.is, told.in-Marker.is)
 
-logical-marker : tie.Need-returns-6
+logical-marker : tie.Need-returns-in-Logical-phase
 unfolding view_reaction reaction_to
 logical-marker c channel =
-    let told = c.before in rw (told.enum-told6.given.1, told.before.before.enum-told3.given.1)
+    let told = c.before in rw (told.in-Logical-phase.is, told.in-Marker.is)
 
 pub react_spec : {M : Type 1} → statement M
 react_spec =

@@ -4,17 +4,17 @@ use Rattle.rules.proofs.Testing.{SoFar, none_yet, one_more, all_tested}
 use Rattle.rules.proofs.sound.at_most.Statement.{statement}
 use Rattle.rules.proofs.sound.at_most.Tie as tie
 
-abbrev invariant-loop : tie.invariant-loop
+abbrev invariant-loop : tie.invariant-loop-i
 invariant-loop counts n limit so₀ i₀ so i = SoFar (λ j. leb (get_or counts j 0) limit) n i so
 
-abbrev decreases-loop : tie.decreases-loop
+abbrev decreases-loop : tie.decreases-loop-i
 decreases-loop counts n limit so₀ i₀ so i = n - i
 
-loop-again : tie.Need-loop-preserved invariant-loop decreases-loop
-loop-again c = one_more c.before.before.loop.invariant c.before.loop-test.true refl
+loop-again : tie.Need-loop-i-preserved invariant-loop decreases-loop
+loop-again c = one_more c.loop-i.invariant c.loop-i-test.true refl
 
 returns : tie.Need-returns invariant-loop decreases-loop
-returns c = all_tested c.before.loop.invariant (λ l. omega (arith, l))
+returns c = all_tested c.loop-i.invariant (λ l. omega (arith, l))
 
 pub at_most_spec : {M : Type 1} → statement M
 at_most_spec =

@@ -5,19 +5,19 @@ use Rattle.rules.proofs.Testing.{SoFar, none_yet, one_more, all_tested}
 use Rattle.rules.proofs.sound.channels_sound.Statement.{statement}
 use Rattle.rules.proofs.sound.channels_sound.Tie as tie
 
-abbrev invariant-loop : tie.invariant-loop
+abbrev invariant-loop : tie.invariant-loop-c
 invariant-loop lengths n so₀ c₀ so c = SoFar (λ d. sound_by_fields (get_or lengths d 0)) n c so
 
-abbrev decreases-loop : tie.decreases-loop
+abbrev decreases-loop : tie.decreases-loop-c
 decreases-loop lengths n so₀ c₀ so c = n - c
 
-loop-again : tie.Need-loop-preserved invariant-loop decreases-loop
+loop-again : tie.Need-loop-c-preserved invariant-loop decreases-loop
 loop-again c =
     let turn = c.before.before in
-    one_more turn.before.loop.invariant turn.loop-test.true c.channel-sound.ensures
+    one_more turn.loop-c.invariant turn.loop-c-test.true c.channel_sound-so.ensures
 
 returns : tie.Need-returns invariant-loop decreases-loop
-returns c = all_tested c.before.loop.invariant (λ l. omega (arith, l))
+returns c = all_tested c.loop-c.invariant (λ l. omega (arith, l))
 
 pub channels_sound_spec : {M : Type 1} → statement M
 channels_sound_spec =

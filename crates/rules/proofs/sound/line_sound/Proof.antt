@@ -9,4 +9,4 @@ unfolding line_sound
 line_sound_spec =
     tie.close
     (tie.spec (λ c κs. search rules) (λ c. search rules)
-    (λ c. rw (sym c.before.before.is-idle.ensures ∙ c.before.if1.false)))
+    (λ c. rw (sym c.is_idle.ensures ∙ c.if-is_idle.false)))

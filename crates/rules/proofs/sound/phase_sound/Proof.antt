@@ -5,9 +5,9 @@ use Rattle.model.specs.Sound.{phase_sound}
 use Rattle.rules.proofs.sound.phase_sound.Statement.{statement}
 use Rattle.rules.proofs.sound.phase_sound.Tie as tie
 
-next-sound : tie.Need-returns-2
+next-sound : tie.Need-returns-in-Physical
 unfolding phase_sound has_process is_late
-next-sound c = rw (c.before.before.before.phase.given.1, c.is-late.ensures)
+next-sound c = rw (c.in-Physical.is, c.is_late.ensures)
 
 pub phase_sound_spec : {M : Type 1} → statement M
 unfolding phase_sound

@@ -35,12 +35,12 @@ regroup true true true true false = refl
 regroup true true true true true = refl
 
 -- past the topology's check
-module _ (p : tie.Else1) where
+module _ (p : tie.Else-not-passes) where
   abbrev s : State
-  s = p.before.before.before.args.s
+  s = p.args.s
 
   passes : topology_sound s.topology ≡ true
-  passes = sym p.before.passes.ensures ∙ not-false _ p.if1.left
+  passes = sym p.passes.ensures ∙ not-false _ p.if-not-passes.false-raw
 
   sizes : SizesFit s.topology.processes s.topology.channels
   unfolding topology_sound
@@ -60,38 +60,38 @@ unfolding sound sound_by all_true
 by_clauses g a b c d e t p q r u v = regroup a b c d e ∙ rw (t, p, q, r, u, v)
 
 -- the topology is refused
-refused : tie.Need-returns
+refused : tie.Need-returns-then-not-passes
 unfolding sound sound_by all_true view
-refused c = rw (sym c.before.passes.ensures ∙ not-true _ c.if1.true)
+refused c = rw (sym c.passes.ensures ∙ not-true _ c.if-not-passes.true-raw)
 
 -- what came before the channels, the message logs and the channel logs were looked through
-abbrev checked : tie.After-channels-sound → tie.Else1
+abbrev checked : tie.After-channels_sound-channels → tie.Else-not-passes
 checked a = a.before.before.before.before.before
 
-abbrev channels : tie.After-at-most → tie.After-channels-sound
-channels a = a.before.before.before.before
+abbrev channels : tie.After-at_most-messages → tie.After-channels_sound-channels
+channels a = a.before.before.before
 
-abbrev messages : tie.After-at-most2 → tie.After-at-most
-messages a = a.before.before.before.before
+abbrev messages : tie.After-at_most-logs → tie.After-at_most-messages
+messages a = a.before.before.before
 
-channels-few : tie.Need-channels-sound-requires
+channels-few : tie.Need-channels_sound-channels-requires
 channels-few c κs = let p = c.before.before.before.before in omega (arith, (sizes p).channels, long p)
 
-messages-few : tie.Need-at-most-requires
-messages-few c κs = omega (arith, (sizes (checked c.before.before.before)).processes)
+messages-few : tie.Need-at_most-messages-requires
+messages-few c κs = omega (arith, (sizes (checked c.before.before)).processes)
 
-logs_few : tie.Need-at-most-requires-2
-logs_few c κs = omega (arith, (sizes (checked (channels c.before.before.before))).channels)
+logs_few : tie.Need-at_most-logs-requires
+logs_few c κs = omega (arith, (sizes (checked (channels c.before.before))).channels)
 
-tested : tie.Need-returns-2
+tested : tie.Need-returns
 unfolding view view_counts log_sound
 tested c =
     let third = c.before.before in
     let second = messages third in
     let first = channels second in
     let p = checked first in
-    by_clauses (view (s p)) _ _ _ _ _ (passes p) (first.channels-sound.ensures ∙ channels_told (s p) _)
-    second.at_most.ensures third.at-most2.ensures c.before.phase-sound.ensures c.line-sound.ensures
+    by_clauses (view (s p)) _ _ _ _ _ (passes p) (first.channels_sound-channels.ensures ∙ channels_told (s p) _)
+    second.at_most-messages.ensures third.at_most-logs.ensures c.phase_sound.ensures c.line_sound.ensures
 
 pub sound_spec : {M : Type 1} → statement M
 sound_spec =

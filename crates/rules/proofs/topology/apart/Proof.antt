@@ -6,19 +6,19 @@ use Rattle.rules.proofs.Testing.{SoFar, none_yet, one_more, all_tested}
 use Rattle.rules.proofs.topology.apart.Statement.{statement}
 use Rattle.rules.proofs.topology.apart.Tie as tie
 
-abbrev invariant-loop : tie.invariant-loop
+abbrev invariant-loop : tie.invariant-loop-d
 invariant-loop c t from to so₀ d₀ so d = SoFar (λ e. not (same_ends t e c)) c d so
 
-abbrev decreases-loop : tie.decreases-loop
+abbrev decreases-loop : tie.decreases-loop-d
 decreases-loop c t from to so₀ d₀ so d = c - d
 
-loop-again : tie.Need-loop-preserved invariant-loop decreases-loop
+loop-again : tie.Need-loop-d-preserved invariant-loop decreases-loop
 unfolding same_ends sender receiver
-loop-again c = let turn = c.before.before in one_more turn.before.loop.invariant turn.loop-test.true refl
+loop-again c = let turn = c.before.before in one_more turn.loop-d.invariant turn.loop-d-test.true refl
 
 returns : tie.Need-returns invariant-loop decreases-loop
 unfolding apart
-returns c = all_tested c.before.loop.invariant (λ l. omega (arith, l))
+returns c = all_tested c.loop-d.invariant (λ l. omega (arith, l))
 
 pub apart_spec : {M : Type 1} → statement M
 apart_spec =

@@ -7,21 +7,21 @@ use Rattle.model.specs.Outcome.{refusal_of}
 use Rattle.rules.proofs.topology.beyond_sizes.Statement.{statement}
 use Rattle.rules.proofs.topology.beyond_sizes.Tie as tie
 
-passes : tie.Need-returns
+passes : tie.Need-returns-then-known
 unfolding refusal_of or_else late_refusal first_refusal
 passes c =
     let t = c.before.before in
-    rw (← t.before.before.channels.ensures, t.enum_told.given.1, ← c.before.known.ensures, c.if1.true)
+    rw (← t.channels.ensures, t.in-Pass.is, ← c.known.ensures, c.if-known.true)
 
-unknown : tie.Need-returns-2
+unknown : tie.Need-returns-else-known
 unfolding refusal_of or_else late_refusal first_refusal
 unknown c =
     let t = c.before.before in
-    rw (← t.before.before.channels.ensures, t.enum_told.given.1, ← c.before.known.ensures, c.if1.false)
+    rw (← t.channels.ensures, t.in-Pass.is, ← c.known.ensures, c.if-known.false)
 
-by-channels : tie.Need-returns-3
+by-channels : tie.Need-returns-in-Refuse
 unfolding refusal_of or_else
-by-channels c = let r = c.before in rw (← r.before.before.channels.ensures, r.r.given.1)
+by-channels c = let r = c in rw (← r.channels.ensures, r.in-Refuse.is)
 
 pub beyond_sizes_spec : {M : Type 1} → statement M
 beyond_sizes_spec =

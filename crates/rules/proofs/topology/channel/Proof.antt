@@ -7,25 +7,25 @@ use Rattle.rules.specs.Ends.{apart}
 use Rattle.rules.proofs.topology.channel.Statement.{statement}
 use Rattle.rules.proofs.topology.channel.Tie as tie
 
-unknown : tie.Need-returns
+unknown : tie.Need-returns-then-not-from-t
 unfolding refusal_of channel_refusal first_refusal has_process sender receiver
-unknown c = rw c.if1.true
+unknown c = rw c.if-not-from-t.true-raw
 
-self : tie.Need-returns-2
+self : tie.Need-returns-then-from-to
 unfolding refusal_of channel_refusal first_refusal has_process sender receiver
-self c = rw (c.before.if1.false, eq-eqb _ _ c.if2.true)
+self c = rw (c.if-not-from-t.false-raw, eq-eqb _ _ c.if-from-to.true)
 
-twice : tie.Need-returns-3
+twice : tie.Need-returns-then-not-apart
 unfolding refusal_of channel_refusal first_refusal has_process sender receiver apart
 twice c =
     let e = c.before.before in
-    rw (e.before.if1.false, ne_eqb _ _ e.if2.false, ← c.before.apart.ensures, c.if3.true)
+    rw (e.if-not-from-t.false-raw, ne_eqb _ _ e.if-from-to.false, ← c.apart.ensures, c.if-not-apart.true-raw)
 
-passes : tie.Need-returns-4
+passes : tie.Need-returns
 unfolding refusal_of channel_refusal first_refusal has_process sender receiver apart
 passes c =
     let e = c.before.before in
-    rw (e.before.if1.false, ne_eqb _ _ e.if2.false, ← c.before.apart.ensures, c.if3.false)
+    rw (e.if-not-from-t.false-raw, ne_eqb _ _ e.if-from-to.false, ← c.apart.ensures, c.if-not-apart.false-raw)
 
 pub channel_spec : {M : Type 1} → statement M
 channel_spec =

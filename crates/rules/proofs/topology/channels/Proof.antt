@@ -8,40 +8,40 @@ use Rattle.model.proofs.laws.Lists.{first_next, first_at}
 use Rattle.rules.proofs.topology.channels.Statement.{statement}
 use Rattle.rules.proofs.topology.channels.Tie as tie
 
-abbrev invariant-loop : tie.invariant-loop
+abbrev invariant-loop : tie.invariant-loop-c
 invariant-loop t c₀ c = (c ≤ t.channels) × (first_below c (channel_refusal t) ≡ none)
 
-abbrev decreases-loop : tie.decreases-loop
+abbrev decreases-loop : tie.decreases-loop-c
 decreases-loop t c₀ c = t.channels - c
 
-loop-holds : tie.Need-loop-init invariant-loop decreases-loop
+loop-holds : tie.Need-loop-c-init invariant-loop decreases-loop
 unfolding first_below
 loop-holds c = (omega arith, refl)
 
 -- the channel at hand decides
-decides : tie.Need-returns invariant-loop decreases-loop
+decides : tie.Need-returns-in-Refuse invariant-loop decreases-loop
 unfolding refusal_of channels_refusal
 decides c =
-    let r = c.before in
-    let channel = r.before.before in
-    let l = channel.before.before.before.loop in
+    let r = c in
+    let channel = r.before in
+    let l = channel.loop-c in
     sym (first_at _ l.c _ _ (omega arith) l.invariant.1
-    (sym channel.channel.ensures ∙ ap refusal_of r.r.given.1))
+    (sym channel.channel.ensures ∙ ap refusal_of r.in-Refuse.is))
 
-loop-again : tie.Need-loop-preserved invariant-loop decreases-loop
+loop-again : tie.Need-loop-c-preserved invariant-loop decreases-loop
 unfolding refusal_of
 loop-again c =
-    let channel = c.before.before in
-    let l = channel.before.before.before.loop in (
+    let channel = c.before in
+    let l = channel.loop-c in (
       omega arith,
-      first_next l.c _ l.invariant.1 ∙ sym channel.channel.ensures ∙ ap refusal_of c.enum_told.given.1,
+      first_next l.c _ l.invariant.1 ∙ sym channel.channel.ensures ∙ ap refusal_of c.in_default.is,
     )
 
-passes : tie.Need-returns-2 invariant-loop decreases-loop
+passes : tie.Need-returns invariant-loop decreases-loop
 unfolding refusal_of channels_refusal
 passes c =
-    let l = c.before.before.loop in
-    let e : l.c ≡ c.before.before.before.args.t.channels = omega arith in
+    let l = c.loop-c in
+    let e : l.c ≡ c.args.t.channels = omega arith in
     sym (rw e at l.invariant.1)
 
 pub channels_spec : {M : Type 1} → statement M

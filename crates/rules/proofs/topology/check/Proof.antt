@@ -10,23 +10,23 @@ use Rattle.rules.proofs.EndsPass.{accepts_none}
 use Rattle.rules.proofs.topology.check.Statement.{statement}
 use Rattle.rules.proofs.topology.check.Tie as tie
 
-passes : tie.Need-returns
+passes : tie.Need-returns-then-passes
 unfolding refusal_of topology_sound
-passes c = sym (accepts_none _ (sym c.before.passes.ensures ∙ c.if1.true))
+passes c = sym (accepts_none _ (sym c.passes.ensures ∙ c.if-passes.true))
 
-few : tie.Need-beyond-sizes-requires
+few : tie.Need-beyond_sizes-requires
 unfolding refusal_of
-few c κs = (sizes _ _ (sym c.before.before.sizes.ensures ∙ ap refusal_of c.enum_told.given.1)).channels
+few c κs = (sizes _ _ (sym c.sizes.ensures ∙ ap refusal_of c.in-Pass.is)).channels
 
-beyond : tie.Need-returns-2
+beyond : tie.Need-returns-in-Pass
 unfolding refusal_of topology_refusal or_else
 beyond c =
     let told = c.before in
-    c.beyond-sizes.ensures ∙ rw (← told.before.before.sizes.ensures, told.enum_told.given.1)
+    c.beyond_sizes.ensures ∙ rw (← told.sizes.ensures, told.in-Pass.is)
 
-by-sizes : tie.Need-returns-3
+by-sizes : tie.Need-returns-in-Refuse
 unfolding refusal_of topology_refusal or_else
-by-sizes c = let r = c.before in rw (← r.before.before.sizes.ensures, r.r.given.1)
+by-sizes c = let r = c in rw (← r.sizes.ensures, r.in-Refuse.is)
 
 pub check_spec : {M : Type 1} → statement M
 check_spec =

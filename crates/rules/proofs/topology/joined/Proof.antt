@@ -6,18 +6,18 @@ use Rattle.rules.proofs.Testing.{SoFar, none_yet, one_more, all_tested}
 use Rattle.rules.proofs.topology.joined.Statement.{statement}
 use Rattle.rules.proofs.topology.joined.Tie as tie
 
-abbrev invariant-loop : tie.invariant-loop
+abbrev invariant-loop : tie.invariant-loop-c
 invariant-loop t so₀ c₀ so c = SoFar (joins_two t) t.channels c so
 
-abbrev decreases-loop : tie.decreases-loop
+abbrev decreases-loop : tie.decreases-loop-c
 decreases-loop t so₀ c₀ so c = t.channels - c
 
-loop-again : tie.Need-loop-preserved invariant-loop decreases-loop
+loop-again : tie.Need-loop-c-preserved invariant-loop decreases-loop
 unfolding joins_two has_process sender receiver
-loop-again c = let turn = c.before.before in one_more turn.before.loop.invariant turn.loop-test.true refl
+loop-again c = let turn = c.before.before in one_more turn.loop-c.invariant turn.loop-c-test.true refl
 
 returns : tie.Need-returns invariant-loop decreases-loop
-returns c = all_tested c.before.loop.invariant (λ l. omega (arith, l))
+returns c = all_tested c.loop-c.invariant (λ l. omega (arith, l))
 
 pub joined_spec : {M : Type 1} → statement M
 joined_spec =

@@ -15,16 +15,16 @@ use Rattle.rules.proofs.topology.passes.Statement.{statement}
 use Rattle.rules.proofs.topology.passes.Tie as tie
 
 -- past the sizes
-module _ (c : tie.After-enum-told) where
+module _ (c : tie.In-Pass) where
   abbrev asked : tie.After-sizes
-  asked = c.before.before
+  asked = c.before
 
   abbrev T : Topology
-  T = asked.before.args.t
+  T = asked.args.t
 
   sizes_pass : size_refusal T.processes T.channels ≡ none
   unfolding refusal_of
-  sizes_pass = sym asked.sizes.ensures ∙ ap refusal_of c.enum_told.given.1
+  sizes_pass = sym asked.sizes.ensures ∙ ap refusal_of c.in-Pass.is
 
   fit : SizesFit T.processes T.channels
   fit = sizes _ _ sizes_pass
@@ -34,19 +34,19 @@ module _ (c : tie.After-enum-told) where
   unfolding topology_sound topology_refusal or_else
   by_passes = rw sizes_pass (beyond_pass T)
 
-refused : tie.Need-returns
+refused : tie.Need-returns-in_default
 unfolding topology_sound topology_refusal or_else accepts refusal_of
-refused c = rw (← c.before.before.sizes.ensures, c.enum-told2.given.1)
+refused c = rw (← c.sizes.ensures, c.in_default.is)
 
-not-joined : tie.Need-returns-2
+not-joined : tie.Need-returns-then-not-joined
 not-joined c =
     let j = c.before in
-    sym (by_passes j.before ∙ rw (sym j.joined.ensures ∙ not-true _ c.if1.true))
+    sym (by_passes j.before ∙ rw (sym j.joined.ensures ∙ not-true _ c.if-not-joined.true-raw))
 
-all_joined : (c : tie.Else1) → let t = T c.before.before in all_below t.channels (joins_two t) ≡ true
-all_joined c = sym c.before.joined.ensures ∙ not-false _ c.if1.false
+all_joined : (c : tie.Else-not-joined) → let t = T c.before.before in all_below t.channels (joins_two t) ≡ true
+all_joined c = sym c.joined.ensures ∙ not-false _ c.if-not-joined.false-raw
 
-by-table : tie.Need-returns-3
+by-table : tie.Need-returns
 by-table c =
     let d = c.before in
     ap₂ ◌&&◌ d.distinct.ensures c.known.ensures

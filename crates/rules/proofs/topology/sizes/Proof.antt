@@ -11,6 +11,6 @@ unfolding refusal_of size_refusal first_refusal
 sizes_spec =
     tie.close
     (tie.spec
-    (λ c. rw c.if1.true)
-    (λ c. rw (c.before.if1.false, lt-ltb _ _ c.if2.true))
-    (λ c. rw (c.before.if1.false, le-ltb _ _ c.if2.false)))
+    (λ c. rw c.if-not-processes.true-raw)
+    (λ c. rw (c.if-not-processes.false-raw, lt-ltb _ _ c.if-channels-gt-CHANNELS.true))
+    (λ c. rw (c.if-not-processes.false-raw, le-ltb _ _ c.if-channels-gt-CHANNELS.false)))

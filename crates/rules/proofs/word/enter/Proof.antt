@@ -10,13 +10,13 @@ returns c =
     let second = c.before in
     let sum = second.before in
     let first = sum.before in
-    let a = first.before.args in
+    let a = first.args in
     let w = 31 * a.word in
     let r = a.receipt in
     rw (
-      c.wrapping-add-u322.ensures,
-      second.product2.ensures,
-      sum.wrapping-add-u32.ensures,
+      c.wrapping_add_u32.ensures,
+      second.product-2.ensures,
+      sum.wrapping_add_u32-from.ensures,
       first.product.ensures,
     )
     (ap (λ (n : ℕ). (31 * n % modulus + r.body) % modulus) (mod-add-mod w modulus r.channel)

@@ -11,13 +11,13 @@ returns c =
     let second = c.before in
     let over = second.before in
     let first = over.before in
-    let low₁ : first.wrapping-sub-u32.result < modulus = omega arith in
-    let low₂ : second.wrapping-sub-u322.result < modulus = omega arith in
+    let low₁ : first.wrapping_sub_u32.result < modulus = omega arith in
+    let low₂ : second.wrapping_sub_u32-2.result < modulus = omega arith in
     rw (
-      c.over2.ensures,
-      difference _ _ _ low₂ second.wrapping-sub-u322.ensures,
-      over.over.ensures,
-      difference _ _ _ low₁ first.wrapping-sub-u32.ensures,
+      c.over.ensures,
+      difference _ _ _ low₂ second.wrapping_sub_u32-2.ensures,
+      over.over-from.ensures,
+      difference _ _ _ low₁ first.wrapping_sub_u32.ensures,
     )
 
 pub leave_spec : {M : Type 1} → statement M
