@@ -82,12 +82,12 @@ def table(words, fields):
     return turned
 
 
-def turn(text, turned, fields, kept):
+def turn(text, turned, fields, kept, rust):
     def one(m):
         name = m[0]
         if name not in turned or name in kept:
             return name
-        if "-" in name and m.start() and text[m.start() - 1] == "." and name not in fields:
+        if not re.search("[a-z][A-Z]", name) and (rust or text[:m.start()].endswith(".") and name not in fields):
             return name
         return turned[name]
     return NAME.sub(one, text)
@@ -105,7 +105,7 @@ def main():
         return
     for path in antt + code + edits:
         text = read(path)
-        new = turn(text, turned, fields, of_kit(text))
+        new = turn(text, turned, fields, of_kit(text), path.endswith(".rt"))
         if new != text:
             with open(path, "w", encoding="utf-8") as f:
                 f.write(new)

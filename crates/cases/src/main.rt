@@ -29,7 +29,7 @@ use crate::starts::{
 use model::{Phase, State, Step};
 
 // One process: a recover at the last line but one, a whole round, and a begin after it, also after another recover.
-fn last_line_lem() {
+fn last_line() {
     let physical = Step::PhysicalCheckpoint { process: 0 };
     let logical = Step::LogicalCheckpoint { process: 0 };
     let alone = sized(1, 0);
@@ -186,7 +186,7 @@ fn logged_channels() {
 }
 
 fn main() {
-    last_line_lem();
+    last_line();
     unsound::topologies();
     unsound::late_bit();
     short_store();

@@ -71,7 +71,7 @@ fn last(list: CallList, place: u8, refusal: Refusal, out: &mut [u8], at: usize) 
 {
     let written = call_bytes(list, place);
     let bytes = written.bytes;
-    report::last_line_lem(out, at, &bytes[..written.count], place as u32 + 1, refusal)
+    report::last_line(out, at, &bytes[..written.count], place as u32 + 1, refusal)
 }
 
 // All of them; of each call there is how much room it said is left.

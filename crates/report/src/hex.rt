@@ -93,7 +93,7 @@ pub fn refused_line(out: &mut [u8], at: usize, r: Refusal) -> usize
 }
 
 // The line of the last kept call, with its refusal.
-pub fn last_line_lem(out: &mut [u8], at: usize, bytes: &[u8], number: u32, r: Refusal) -> usize
+pub fn last_line(out: &mut [u8], at: usize, bytes: &[u8], number: u32, r: Refusal) -> usize
     ensures { Appends (last_bytes (length bytes.now)) out.old at
         (last_text bytes.now number (refusal_number r)) out.new result }
 {

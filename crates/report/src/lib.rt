@@ -15,7 +15,7 @@ ghost use Rattle.report.specs.TextBytes.{plan_refused_bytes, process_bytes, chan
 ghost use Rattle.report.specs.Text.{chars, decimal, values, named, said_text, said_line};
 ghost use Rattle.report.specs.Text.{plan_refused_text, process_text, channel_text, cell_text};
 
-pub use hex::{kept_line, last_line_lem, plan_line, refused_line, sent_line};
+pub use hex::{kept_line, last_line, plan_line, refused_line, sent_line};
 use model::{Channel, Entry, Outcome, Refusal};
 use rules::channel;
 use rules::refusal::number;

@@ -102,7 +102,7 @@ fn closed_before(s: State, call: Deed) -> bool
 }
 
 // 9, the channel is full.
-fn no_room_lem(s: State, call: Deed) -> bool
+fn no_room(s: State, call: Deed) -> bool
     ensures { result ≡ no_room (view s) (asked call) }
 {
     let lengths = s.lengths;
@@ -153,7 +153,7 @@ fn refusal(s: State, call: Deed) -> Verdict
     ensures { refusal_of result ≡ turned_down (view s) (asked call) }
 {
     let log = unless(log_full(s, call), Refusal::LogFull, Verdict::Pass);
-    let room = unless(no_room_lem(s, call), Refusal::ChannelFull, log);
+    let room = unless(no_room(s, call), Refusal::ChannelFull, log);
     let open = unless(closed_before(s, call), Refusal::MarkerOnClosed, room);
     let entry = unless(nothing_there(s, call), Refusal::ChannelEmpty, open);
     let line = unless(no_line_left(s, call), Refusal::LastLine, entry);

@@ -8,7 +8,7 @@ returns : tie.Need-returns
 returns c =
     let line = c.before.before in
     let call = line.before.before.before.before.call-bytes.ensures in
-    line_printed _ call _ _ _ line.last_line_lem.ensures
+    line_printed _ call _ _ _ line.last_line.ensures
 
 pub last_spec : {M : Type 1} → statement M
 last_spec =

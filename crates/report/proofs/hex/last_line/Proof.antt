@@ -1,8 +1,8 @@
 -- `hex::last_line_lem` meets its contract.
 use borrow.Author.Rules.{rules}
 use Rattle.report.proofs.Appending.{◌then◌}
-use Rattle.report.proofs.hex.last_line_lem.Statement.{statement}
-use Rattle.report.proofs.hex.last_line_lem.Tie as tie
+use Rattle.report.proofs.hex.last_line.Statement.{statement}
+use Rattle.report.proofs.hex.last_line.Tie as tie
 
 returns : tie.Need-returns
 returns c =

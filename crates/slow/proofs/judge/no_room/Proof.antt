@@ -3,8 +3,8 @@ use borrow.Author.Rules.{rules}
 use Rattle.model.proofs.laws.ChannelLaws.{entries_count}
 use Rattle.account.specs.Judging.{no_room}
 use Rattle.model.specs.State.{view}
-use Rattle.slow.proofs.judge.no_room_lem.Statement.{statement}
-use Rattle.slow.proofs.judge.no_room_lem.Tie as tie
+use Rattle.slow.proofs.judge.no_room.Statement.{statement}
+use Rattle.slow.proofs.judge.no_room.Tie as tie
 
 returns : tie.Need-returns
 unfolding no_room view

@@ -26,7 +26,7 @@ returns c =
       closing.unless3.ensures,
       closing.before.closed-before.ensures,
       room.unless2.ensures,
-      room.before.no_room_lem.ensures,
+      room.before.no_room.ensures,
       log.unless.ensures,
       log.before.log-full.ensures,
     )
