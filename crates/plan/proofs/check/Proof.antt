@@ -14,44 +14,44 @@ use Rattle.model.specs.Program.{shape_refusal}
 use Rattle.plan.proofs.check.Statement.{statement}
 use Rattle.plan.proofs.check.Tie as tie
 
-short : tie.Need-returns
+short : tie.Need-returns-then-bytes-lt-SIZES
 unfolding refusal_of shape_refusal or_else first_refusal
-short c = simp (lt-ltb _ _ c.if1.true)
+short c = simp (lt-ltb _ _ c.if-bytes-lt-SIZES.true)
 
 -- past the first two bytes
-abbrev start : tie.After-sizes → tie.Start
+abbrev start : tie.After-sizes-sizes → tie.Start
 start s = s.before.before.before.before.before
 
-two : (s : tie.After-sizes) → ltb (length (start s).args.bytes.now) 2 ≡ false
-two s = le-ltb _ _ s.before.before.before.if1.false
+two : (s : tie.After-sizes-sizes) → ltb (length (start s).args.bytes.now) 2 ≡ false
+two s = le-ltb _ _ s.if-bytes-lt-SIZES.false
 
-refused : tie.Need-returns-2
+refused : tie.Need-returns-in-Refuse
 unfolding refusal_of shape_refusal or_else first_refusal
 refused c =
-    let s = c.before.before in
-    let told = ap refusal_of c.enum_told.given.1 in
-    told ∙ rw (two s, sym s.sizes.ensures ∙ told)
+    let s = c.before in
+    let told = ap refusal_of c.in-Refuse.is in
+    told ∙ rw (two s, sym s.sizes-sizes.ensures ∙ told)
 
 -- the sizes pass
-fit : (c : tie.After-enum-told2)
-    → let bytes = (start c.before.before).args.bytes.now in size_refusal (get_or bytes 0 0) (get_or bytes 1 0) ≡ none
+fit : (c : tie.In_default)
+    → let bytes = (start c.before).args.bytes.now in size_refusal (get_or bytes 0 0) (get_or bytes 1 0) ≡ none
 unfolding refusal_of
-fit c = sym c.before.before.sizes.ensures ∙ ap refusal_of c.enum-told2.given.1
+fit c = sym c.sizes-sizes.ensures ∙ ap refusal_of c.in_default.is
 
-broken : tie.Need-returns-3
+broken : tie.Need-returns-then-bytes-plan_length
 unfolding refusal_of shape_refusal or_else first_refusal
 broken c =
     let p = c.before in
     let k = p.before in
-    rw (two k.before.before, fit k, ← p.plan-length.ensures, lt-ltb _ _ c.if2.true)
+    rw (two k.before, fit k, ← p.plan_length.ensures, lt-ltb _ _ c.if-bytes-plan_length.true)
 
-passes : tie.Need-returns-4
+passes : tie.Need-returns
 unfolding refusal_of shape_refusal or_else first_refusal
 passes c =
     let p = c.before in
     let k = p.before in
-    let whole : p.plan-length.result ≤ length (start k.before.before).args.bytes.now = c.if2.false in
-    rw (two k.before.before, fit k, ← p.plan-length.ensures, le-ltb _ _ whole)
+    let whole : p.plan_length.result ≤ length (start k.before).args.bytes.now = c.if-bytes-plan_length.false in
+    rw (two k.before, fit k, ← p.plan_length.ensures, le-ltb _ _ whole)
 
 pub check_spec : {M : Type 1} → statement M
 check_spec =

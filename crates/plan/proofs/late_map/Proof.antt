@@ -8,22 +8,22 @@ use Rattle.plan.proofs.Plans.{whole}
 use Rattle.plan.proofs.late_map.Statement.{statement}
 use Rattle.plan.proofs.late_map.Tie as tie
 
-inside : (c : tie.After-map-start) → c.map-start.result + 1 < length c.before.before.args.bytes.now
+inside : (c : tie.After-map_start-at) → c.map_start-at.result + 1 < length c.args.bytes.now
 unfolding map_start
 inside c =
     let start = c.before.before in
-    omega (arith, (whole start.args.bytes.now start.requires).all, c.map-start.ensures.0)
+    omega (arith, (whole start.args.bytes.now start.requires).all, c.map_start-at.ensures.0)
 
-abbrev at : tie.After-shared-slice-known3 → ℕ
-at c = c.before.before.map-start.result
+abbrev at : tie.After-shared_slice_known-3-1 → ℕ
+at c = c.map_start-at.result
 
-small : (c : tie.After-shared-slice-known3) (i : ℕ)
-    → get_or c.before.before.before.before.args.bytes.now i 0 < 256
-small c i = omega (arith, c.shared-slice-known3.given i)
+small : (c : tie.After-shared_slice_known-3-1) (i : ℕ)
+    → get_or c.args.bytes.now i 0 < 256
+small c i = omega (arith, c.shared_slice_known-3-1.given i)
 
 returns : tie.Need-returns
 unfolding late_map
-returns c = rw c.before.before.map-start.ensures.0
+returns c = rw c.map_start-at.ensures.0
 
 pub late_map_spec : {M : Type 1} → statement M
 late_map_spec =
@@ -31,7 +31,7 @@ late_map_spec =
     (tie.spec
     (λ c κs. search rules)
     (λ c. omega (arith, inside c.before))
-    (λ c. omega (arith, c.before.map-start.ensures.1))
+    (λ c. omega (arith, c.map_start-at.ensures.1))
     (λ c. inside c.before.before)
     (λ c. omega (arith, small c (at c)))
     (λ c. omega (arith, small c (at c + 1)))

@@ -7,7 +7,7 @@ use Rattle.plan.proofs.plan_length.Tie as tie
 
 returns : tie.Need-returns
 unfolding plan_length
-returns c = rw c.map-start.ensures.0
+returns c = rw c.map_start.ensures.0
 
 pub plan_length_spec : {M : Type 1} → statement M
-plan_length_spec = tie.close (tie.spec (λ c κs. search rules) (λ c. omega (arith, c.map-start.ensures.1)) returns)
+plan_length_spec = tie.close (tie.spec (λ c κs. search rules) (λ c. omega (arith, c.map_start.ensures.1)) returns)

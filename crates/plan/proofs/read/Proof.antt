@@ -8,35 +8,35 @@ use Rattle.plan.specs.PlanRead.{plan_or, plan_in}
 use Rattle.plan.proofs.read.Statement.{statement}
 use Rattle.plan.proofs.read.Tie as tie
 
-misshapen : tie.Need-returns
+misshapen : tie.Need-returns-in-Refuse
 unfolding refusal_of plan_refusal or_else plan_in plan_or
 misshapen c =
-    let told = c.before.before in
+    let told = c in
     let k = told.before.before in
-    c.refused.ensures ∙ rw (sym k.check.ensures ∙ ap refusal_of told.r.given.1)
+    c.refused.ensures ∙ rw (sym k.check.ensures ∙ ap refusal_of told.in-Refuse.is)
 
-shaped : tie.Need-topology-requires
+shaped : tie.Need-topology-topology-requires
 unfolding refusal_of
-shaped c κs = sym c.before.before.check.ensures ∙ ap refusal_of c.enum_told.given.1
+shaped c κs = sym c.check.ensures ∙ ap refusal_of c.in_default.is
 
-refused : tie.Need-returns-2
+refused : tie.Need-returns-in-Refuse-check
 unfolding refusal_of plan_refusal or_else plan_in plan_or
 refused c =
-    let told = c.before.before in
+    let told = c in
     let k = told.before.before in
     let p = k.before in
-    c.refused2.ensures
-    ∙ rw (shaped p.before _, ← p.topology.ensures, sym k.check2.ensures ∙ ap refusal_of told.r2.given.1)
+    c.refused-in-Refuse-check.ensures
+    ∙ rw (shaped p.before _, ← p.topology-topology.ensures, sym k.check-2.ensures ∙ ap refusal_of told.in-Refuse-check.is)
 
-passes : tie.Need-returns-3
+passes : tie.Need-returns-in-Pass
 unfolding refusal_of plan_refusal or_else plan_in plan_or
 passes c =
-    let k = c.before.before in
+    let k = c.before in
     let p = k.before in
     rw (
       shaped p.before _,
-      ← p.topology.ensures,
-      sym k.check2.ensures ∙ ap refusal_of c.enum-told2.given.1,
+      ← p.topology-topology.ensures,
+      sym k.check-2.ensures ∙ ap refusal_of c.in-Pass.is,
     )
 
 pub read_spec : {M : Type 1} → statement M

@@ -6,7 +6,7 @@ use Rattle.plan.proofs.refused.Tie as tie
 
 returns : tie.Need-returns
 unfolding refusal_of
-returns c = rw c.topology.ensures
+returns c = rw c.topology-topology.ensures
 
 pub refused_spec : {M : Type 1} → statement M
 refused_spec = tie.close (tie.spec (λ c κs. search rules) returns)

@@ -9,18 +9,18 @@ use Rattle.model.specs.Program.{plan_length}
 use Rattle.plan.proofs.rest.Statement.{statement}
 use Rattle.plan.proofs.rest.Tie as tie
 
-none_left : tie.Need-returns
+none_left : tie.Need-returns-then-bytes-next
 none_left c =
     let p = c.before.before in
     let bytes = p.before.before.args.bytes.now in
     sym (drop_of_length-le bytes {i = plan_length bytes} (omega (arith, p.plan-length.ensures)))
 
-some_left : tie.Need-returns-2
+some_left : tie.Need-returns
 some_left c =
     let p = c.before.before in
-    let bytes = p.before.before.args.bytes.now in
-    let next = p.plan-length.result in
-    rw (← p.plan-length.ensures)
+    let bytes = p.args.bytes.now in
+    let next = p.plan_length-next.result in
+    rw (← p.plan_length-next.ensures)
     (take_all (length bytes - next) (drop next bytes) (rw length-drop (omega arith)))
 
 pub rest_spec : {M : Type 1} → statement M

@@ -9,5 +9,5 @@ use Rattle.plan.proofs.taken.Tie as tie
 pub taken_spec : {M : Type 1} → statement M
 taken_spec =
     tie.close
-    (tie.spec (λ c. sym (take_all input_bytes c.before.args.input.now (omega arith)))
-    (λ c. sym (length-take-le input_bytes c.before.before.args.input.now c.before.if1.false)) (λ c. refl))
+    (tie.spec (λ c. sym (take_all input_bytes c.args.input.now (omega arith)))
+    (λ c. sym (length-take-le input_bytes c.before.before.args.input.now c.if1.false)) (λ c. refl))

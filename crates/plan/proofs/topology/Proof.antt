@@ -14,7 +14,7 @@ unfolding plan_of
 returns c =
     let late = c.before.before in
     let to = late.before in
-    rw (to.before.ends.ensures, to.ends2.ensures, late.late-map.ensures)
+    rw (to.ends-from.ensures, to.ends-to.ensures, late.late_map-late.ensures)
 
 pub topology_spec : {M : Type 1} → statement M
 topology_spec =

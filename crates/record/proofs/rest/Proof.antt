@@ -11,9 +11,9 @@ use Rattle.record.proofs.rest.Tie as tie
 returns : tie.Need-returns
 returns c =
     let p = c.before in
-    let bytes = p.before.before.args.bytes.now in
-    let next = p.parse.result.next in
-    take_all (length bytes - next) (drop next bytes) (rw (length-drop _ _) (omega arith)) ∙ p.parse.ensures.rest
+    let bytes = p.args.bytes.now in
+    let next = p.parse-p.result.next in
+    take_all (length bytes - next) (drop next bytes) (rw (length-drop _ _) (omega arith)) ∙ p.parse-p.ensures.rest
 
 pub rest_spec : {M : Type 1} → statement M
 rest_spec =

@@ -21,65 +21,65 @@ promised : {w : Written} {r x : Record} → r ≡ x → w ≡ written x → (fie
 promised {w} {r} {x} e q h = rw e (q, rw append-nil at (written_reads x [] h q))
 
 -- of a step that is known to be x
-module _ (k : tie.After-known-told) where
+module _ (k : tie.In-Call) where
   abbrev given : Record
-  given = k.before.before.before.args.r
+  given = k.args.r
 
-  stepped : {w : Written} {x : Step} → k.before.r.given.0.0 ≡ x → w ≡ written (Call x)
+  stepped : {w : Written} {x : Step} → k.in-Call.s ≡ x → w ≡ written (Call x)
       → (fields_of (Call x)).body < 4294967296 → (w ≡ written given) × (read_record (bytes_of w) ≡ some (given, []))
-  stepped e q h = promised (k.before.r.given.1 ∙ ap Call e) q h
+  stepped e q h = promised (k.in-Call.is ∙ ap Call e) q h
 
-send : tie.Need-returns
+send : tie.Need-returns-in-Send
 unfolding written write_record fields_of
 send c =
-    let s = c.before.before in
-    stepped s.before.before s.s.given.1 c.with-channel.ensures (omega arith)
+    let s = c in
+    stepped s.before.before s.in-Send.is c.with_channel.ensures (omega arith)
 
-receive : tie.Need-returns-2
+receive : tie.Need-returns-in-Receive
 unfolding written write_record fields_of
 receive c =
-    let s = c.before.before in
-    stepped s.before.before s.s2.given.1 c.with-channel2.ensures (omega arith)
+    let s = c in
+    stepped s.before.before s.in-Receive.is c.with_channel-in-Receive.ensures (omega arith)
 
-begin : tie.Need-returns-3
+begin : tie.Need-returns-in-Begin
 unfolding written write_record fields_of
 begin c =
     let s = c.before in
-    stepped s.before.before s.enum_told.given.1 c.with-process.ensures (omega arith)
+    stepped s.before s.in-Begin.is c.with_process.ensures (omega arith)
 
-physical : tie.Need-returns-4
+physical : tie.Need-returns-in-PhysicalCheckpoint
 unfolding written write_record fields_of
 physical c =
-    let s = c.before.before in
-    stepped s.before.before s.s3.given.1 c.with-process2.ensures (omega arith)
+    let s = c in
+    stepped s.before.before s.in-PhysicalCheckpoint.is c.with_process-in-PhysicalCheckpoint.ensures (omega arith)
 
-logical : tie.Need-returns-5
+logical : tie.Need-returns-in-LogicalCheckpoint
 unfolding written write_record fields_of
 logical c =
-    let s = c.before.before in
-    stepped s.before.before s.s4.given.1 c.with-process3.ensures (omega arith)
+    let s = c in
+    stepped s.before.before s.in-LogicalCheckpoint.is c.with_process-in-LogicalCheckpoint.ensures (omega arith)
 
-marker : tie.Need-returns-6
+marker : tie.Need-returns-in-SendMarker
 unfolding written write_record fields_of
 marker c =
-    let s = c.before.before in
-    stepped s.before.before s.s5.given.1 c.with-channel3.ensures (omega arith)
+    let s = c in
+    stepped s.before.before s.in-SendMarker.is c.with_channel-in-SendMarker.ensures (omega arith)
 
-commit : tie.Need-returns-7
+commit : tie.Need-returns-in-Commit
 unfolding written write_record fields_of
 commit c =
     let s = c.before in
-    stepped s.before.before s.enum-told2.given.1 c.with-process4.ensures (omega arith)
+    stepped s.before s.in-Commit.is c.with_process-in-Commit.ensures (omega arith)
 
-abort : tie.Need-returns-8
+abort : tie.Need-returns-in-Abort
 unfolding written write_record fields_of
 abort c =
     let s = c.before in
-    stepped s.before.before s.enum-told3.given.1 c.with-process5.ensures (omega arith)
+    stepped s.before s.in-Abort.is c.with_process-in-Abort.ensures (omega arith)
 
-recover : tie.Need-returns-9
+recover : tie.Need-returns-in-Recover
 unfolding written write_record fields_of
-recover c = promised c.before.enum-told4.given.1 c.with-process6.ensures (omega arith)
+recover c = promised c.in-Recover.is c.with_process-in-Recover.ensures (omega arith)
 
 pub write_spec : {M : Type 1} → statement M
 write_spec =

@@ -22,22 +22,22 @@ record Listed (c : Channel) (all i : ℕ) (before : List ℕ) (at : ℕ) (after 
   places : i ≤ all
   text : Appends (i * value_bytes) before at (values (bodies_below i c)) after r
 
-abbrev invariant-loop : tie.invariant-loop
+abbrev invariant-loop : tie.invariant-loop-i
 invariant-loop out₀ at c all next₀ i₀ out next i = Listed c all i out₀ at out next
 
-abbrev decreases-loop : tie.decreases-loop
+abbrev decreases-loop : tie.decreases-loop-i
 decreases-loop out₀ at c all next₀ i₀ out next i = all - i
 
-loop-holds : tie.Need-loop-init invariant-loop decreases-loop
+loop-holds : tie.Need-loop-i-init invariant-loop decreases-loop
 unfolding tabulate bodies values
 loop-holds c = record { places = omega arith; text = nothing _ _ }
 
-loop-again : tie.Need-loop-preserved invariant-loop decreases-loop
+loop-again : tie.Need-loop-i-preserved invariant-loop decreases-loop
 loop-again c =
     let at = c.before.before.before in
-    let l = at.loop in
-    let from = at.before.before.before.args.c in
-    let here = c.before.entry_at.ensures in
+    let l = at.loop-i in
+    let from = at.args.c in
+    let here = c.entry_at-e.ensures in
     ⊎_elim
     (λ w.
     let more = message_more from l.i (sym w.1.given.1 ∙ here) in
@@ -46,19 +46,19 @@ loop-again c =
     (λ w.
     let same = marker_more from l.i (sym w.1.given.1 ∙ here) in
     record { places = omega arith; text = rw (same, w.2, w.3) (at_most l.invariant.text (omega arith)) })
-    c.match.branch
+    c.match-e.branch-raw
 
 returns : tie.Need-returns invariant-loop decreases-loop
 unfolding entries
 returns c =
     let at = c.before in
-    let from = at.before.before.before.args.c in
-    let e : at.loop.i ≡ from.count = omega (arith, at.before.length.ensures, entries_count from) in
-    rw (entries_count from) (rw e at at.loop.invariant.text)
+    let from = at.args.c in
+    let e : at.loop-i.i ≡ from.count = omega (arith, at.length-entries.ensures, entries_count from) in
+    rw (entries_count from) (rw e at at.loop-i.invariant.text)
 
 pub bodies_spec : {M : Type 1} → statement M
 bodies_spec =
     tie.close
     (tie.spec invariant-loop decreases-loop (λ c κs. search rules) loop-holds (λ c κs. search rules) (λ c. search rules)
     (λ c κs. search rules) (λ c. search rules) (λ c. search rules) (λ c. search rules) loop-again
-    (λ c. appended_length c.before.loop.invariant.text) returns)
+    (λ c. appended_length c.loop-i.invariant.text) returns)

@@ -15,18 +15,18 @@ returns c =
     let number = count.before.before.before.before.before in
     let name = number.before.before.before.before in
     let start = name.before.before.before.before in
-    rw (values_two, ← count.before.messages.ensures)
+    rw (values_two, ← count.messages.ensures)
     (at_most
-    (name.bytes.ensures
-    then number.value.ensures
-    then count.value2.ensures
-    then list.bodies.ensures
-    then end.bytes2.ensures)
-    (omega (arith, start.well-formed, entries_count start.args.channel)))
+    (name.bytes-named.ensures
+    then number.value-next.ensures
+    then count.value-counted.ensures
+    then list.bodies-listed.ensures
+    then end.bytes.ensures)
+    (omega (arith, start.well_formed, entries_count start.args.channel)))
 
 pub channel_line_spec : {M : Type 1} → statement M
 channel_line_spec =
     tie.close
-    (tie.spec (λ c. search rules) (λ c κs. search rules) (λ c κs. search rules) (λ c κs. search rules)
+    (tie.spec (λ c κs. search rules) (λ c κs. search rules)
     (λ c κs. search rules) (λ c κs. search rules) (λ c. search rules) (λ c κs. search rules) (λ c. search rules)
     returns)

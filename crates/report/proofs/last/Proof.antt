@@ -8,9 +8,9 @@ returns : tie.Need-returns
 returns c =
     let end = c.before.before in
     let number = end.before.before.before.before.before in
-    number.value.ensures then end.bytes.ensures
+    number.value-next.ensures then end.bytes.ensures
 
 pub last_spec : {M : Type 1} → statement M
 last_spec =
     tie.close
-    (tie.spec (λ c κs. search rules) (λ c. search rules) (λ c κs. search rules) (λ c. search rules) returns)
+    (tie.spec (λ c. search rules) (λ c κs. search rules) (λ c. search rules) returns)

@@ -17,22 +17,22 @@ record Counted (c : Channel) (all n i : ℕ) : Type 0 where
   few : n ≤ i
   messages : n ≡ length (bodies_below i c)
 
-abbrev invariant-loop : tie.invariant-loop
+abbrev invariant-loop : tie.invariant-loop-i
 invariant-loop c all n₀ i₀ n i = Counted c all n i
 
-abbrev decreases-loop : tie.decreases-loop
+abbrev decreases-loop : tie.decreases-loop-i
 decreases-loop c all n₀ i₀ n i = all - i
 
-loop-holds : tie.Need-loop-init invariant-loop decreases-loop
+loop-holds : tie.Need-loop-i-init invariant-loop decreases-loop
 unfolding tabulate bodies
 loop-holds c = record { places = omega arith; few = omega arith; messages = refl }
 
-loop-again : tie.Need-loop-preserved invariant-loop decreases-loop
+loop-again : tie.Need-loop-i-preserved invariant-loop decreases-loop
 loop-again c =
     let at = c.before.before.before in
-    let l = at.loop in
-    let from = at.before.before.args.c in
-    let here = c.before.entry_at.ensures in
+    let l = at.loop-i in
+    let from = at.args.c in
+    let here = c.entry_at-e.ensures in
     ⊎_elim
     (λ w.
     let more = message_more from l.i (sym w.1.given.1 ∙ here) in
@@ -41,15 +41,15 @@ loop-again c =
     (λ w.
     let same = marker_more from l.i (sym w.1.given.1 ∙ here) in
     record { places = omega arith; few = omega (arith, w.2); messages = w.2 ∙ rw same l.invariant.messages })
-    c.match.branch
+    c.match-e.branch-raw
 
 returns : tie.Need-returns invariant-loop decreases-loop
 unfolding entries
 returns c =
     let at = c.before in
-    let from = at.before.before.args.c in
-    let e : at.loop.i ≡ from.count = omega (arith, at.before.length.ensures, entries_count from) in
-    rw e at at.loop.invariant.messages
+    let from = at.args.c in
+    let e : at.loop-i.i ≡ from.count = omega (arith, at.length-entries.ensures, entries_count from) in
+    rw e at at.loop-i.invariant.messages
 
 pub messages_spec : {M : Type 1} → statement M
 messages_spec =

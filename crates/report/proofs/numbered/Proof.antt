@@ -8,9 +8,9 @@ returns : tie.Need-returns
 returns c =
     let space = c.before.before in
     let number = space.before.before.before.before.before in
-    number.decimal.ensures then space.bytes.ensures
+    number.decimal-next.ensures then space.bytes.ensures
 
 pub numbered_spec : {M : Type 1} → statement M
 numbered_spec =
     tie.close
-    (tie.spec (λ c κs. search rules) (λ c. search rules) (λ c κs. search rules) (λ c. search rules) returns)
+    (tie.spec (λ c. search rules) (λ c κs. search rules) (λ c. search rules) returns)

@@ -12,7 +12,7 @@ returns c =
     let made = c.before.before in
     let told = made.before.before.before.before in
     let number = told.before.before.before.before in
-    rw append_assoc (number.numbered.ensures then told.said.ensures then made.last.ensures)
+    rw append_assoc (number.numbered-next.ensures then told.said-told.ensures then made.last.ensures)
 
 pub outcome_line_spec : {M : Type 1} → statement M
 outcome_line_spec =

@@ -8,10 +8,10 @@ returns : tie.Need-returns
 returns c =
     let number = c.before.before in
     let name = number.before.before.before.before.before in
-    rw (← number.before.number.ensures) (name.bytes.ensures then number.last.ensures)
+    rw (← number.number.ensures) (name.bytes-next.ensures then number.last.ensures)
 
 pub plan_refused_spec : {M : Type 1} → statement M
 plan_refused_spec =
     tie.close
-    (tie.spec (λ c. search rules) (λ c κs. search rules) (λ c κs. search rules) (λ c. search rules)
+    (tie.spec (λ c κs. search rules) (λ c κs. search rules) (λ c. search rules)
     (λ c κs. search rules) (λ c. search rules) returns)

@@ -15,10 +15,10 @@ returns c =
     let name = line.before.before.before.before in
     let number = name.before.before.before.before.before in
     rw recover_text
-    (number.numbered.ensures then name.bytes.ensures then line.value.ensures then made.last.ensures)
+    (number.numbered-next.ensures then name.bytes-named.ensures then line.value-told.ensures then made.last.ensures)
 
 pub recover_line_spec : {M : Type 1} → statement M
 recover_line_spec =
     tie.close
-    (tie.spec (λ c κs. search rules) (λ c. search rules) (λ c κs. search rules) (λ c κs. search rules)
+    (tie.spec (λ c. search rules) (λ c κs. search rules) (λ c κs. search rules)
     (λ c κs. search rules) (λ c. search rules) returns)

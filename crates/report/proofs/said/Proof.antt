@@ -8,53 +8,52 @@ use Rattle.report.proofs.Texts.{decimal_length, values_one}
 use Rattle.report.proofs.said.Statement.{statement}
 use Rattle.report.proofs.said.Tie as tie
 
-done : tie.Need-returns
+done : tie.Need-returns-in-Done
 unfolding values said_name said_values said_text
 done c =
     let name = c.before.before in
-    rw name.before.before.before.enum_told.given.1 (at_most name.bytes.ensures (omega arith))
+    rw name.in-Done.is (at_most name.bytes.ensures (omega arith))
 
-sent : tie.Need-returns-2
+sent : tie.Need-returns-in-Sent
 unfolding said_name said_values said_text
 sent c =
     let room = c.before.before in
     let name = room.before.before.before.before in
-    rw name.before.before.before.before.outcome.given.1 (name.bytes2.ensures then room.value.ensures)
+    rw name.in-Sent.is (name.bytes-next.ensures then room.value.ensures)
 
-received : tie.Need-returns-3
+received : tie.Need-returns-in-Received
 unfolding said_name said_values said_text
 received c =
     let body = c.before.before in
     let name = body.before.before.before.before in
-    rw name.before.before.before.before.outcome2.given.1 (name.bytes3.ensures then body.value2.ensures)
+    rw name.in-Received.is (name.bytes-next-in-Received.ensures then body.value-in-Received.ensures)
 
-marker : tie.Need-returns-4
+marker : tie.Need-returns-in-ReceivedMarker
 unfolding values said_name said_values said_text
 marker c =
     let name = c.before.before in
-    rw name.before.before.before.enum-told2.given.1 (at_most name.bytes4.ensures (omega arith))
+    rw name.in-ReceivedMarker.is (at_most name.bytes-in-ReceivedMarker.ensures (omega arith))
 
-refused : tie.Need-returns-5
+refused : tie.Need-returns-in-Refused
 unfolding said_name said_values said_text
 refused c =
     let number = c.before.before in
     let name = number.before.before.before.before.before in
-    let short = decimal_length 2 number.before.number.result (omega (arith, number.before.number.type-inv)) in
-    let text = name.bytes5.ensures then number.value3.ensures in
-    rw (name.before.before.before.before.outcome3.given.1, ← number.before.number.ensures)
+    let short = decimal_length 2 number.number.result (omega (arith, number.number.type_inv)) in
+    let text = name.bytes-next-in-Refused.ensures then number.value-in-Refused.ensures in
+    rw (name.in-Refused.is, ← number.number.ensures)
     (of_length text (rw values_one (omega arith)))
 
-lost : tie.Need-returns-6
+lost : tie.Need-returns-in-PowerLost
 unfolding values said_name said_values said_text
 lost c =
     let name = c.before.before in
-    rw name.before.before.before.enum-told3.given.1 (at_most name.bytes6.ensures (omega arith))
+    rw name.in-PowerLost.is (at_most name.bytes-in-PowerLost.ensures (omega arith))
 
 pub said_spec : {M : Type 1} → statement M
 said_spec =
     tie.close
-    (tie.spec (λ c. search rules) (λ c. search rules) (λ c κs. search rules) (λ c. search rules) (λ c. search rules)
-    (λ c κs. search rules) (λ c. search rules) (λ c κs. search rules) (λ c. search rules) (λ c. search rules)
+    (tie.spec (λ c. search rules) (λ c κs. search rules) (λ c. search rules) (λ c. search rules)
     (λ c κs. search rules) (λ c κs. search rules) (λ c. search rules) (λ c. search rules) (λ c κs. search rules)
     (λ c. search rules) (λ c. search rules) (λ c κs. search rules) (λ c κs. search rules) (λ c. search rules)
     (λ c κs. search rules) (λ c. search rules) (λ c. search rules) (λ c κs. search rules) (λ c. search rules) done

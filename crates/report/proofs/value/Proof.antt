@@ -9,9 +9,9 @@ returns : tie.Need-returns
 returns c =
     let number = c.before.before in
     let space = number.before.before.before.before in
-    rw values_one (space.bytes.ensures then number.decimal.ensures)
+    rw values_one (space.bytes-next.ensures then number.decimal.ensures)
 
 pub value_spec : {M : Type 1} → statement M
 value_spec =
     tie.close
-    (tie.spec (λ c. search rules) (λ c κs. search rules) (λ c κs. search rules) (λ c. search rules) returns)
+    (tie.spec (λ c κs. search rules) (λ c κs. search rules) (λ c. search rules) returns)

@@ -4,17 +4,17 @@ use Rattle.model.specs.Form.{slot, channel_record, count_cell}
 use Rattle.reading.proofs.form.channel_count_cell.Statement.{statement}
 use Rattle.reading.proofs.form.channel_count_cell.Tie as tie
 
-returns : tie.Need-returns
+returns : tie.Need-returns-in-Old
 unfolding slot channel_record count_cell
 returns c =
-    rw c.before.enum_told.given.1
-    (record { is = omega (arith, c.old-slot.ensures); low = omega (arith, c.old-slot.ensures) })
+    rw c.in-Old.is
+    (record { is = omega (arith, c.old_slot.ensures); low = omega (arith, c.old_slot.ensures) })
 
-returns-2 : tie.Need-returns-2
+returns-2 : tie.Need-returns-in-Present
 unfolding slot channel_record count_cell
 returns-2 c =
-    rw c.before.enum-told2.given.1
-    (record { is = c.channel-count-cell.ensures; low = omega (arith, c.channel-count-cell.ensures) })
+    rw c.in-Present.is
+    (record { is = c.channel_count_cell.ensures; low = omega (arith, c.channel_count_cell.ensures) })
 
 pub channel_count_cell_spec : {M : Type 1} → statement M
 unfolding slot

@@ -4,17 +4,17 @@ use Rattle.model.specs.Form.{slot, process_record, physical_cell}
 use Rattle.reading.proofs.form.physical_cell.Statement.{statement}
 use Rattle.reading.proofs.form.physical_cell.Tie as tie
 
-returns : tie.Need-returns
+returns : tie.Need-returns-in-Old
 unfolding slot process_record physical_cell
 returns c =
-    rw c.before.enum_told.given.1
-    (record { is = omega (arith, c.old-slot.ensures); low = omega (arith, c.old-slot.ensures) })
+    rw c.in-Old.is
+    (record { is = omega (arith, c.old_slot.ensures); low = omega (arith, c.old_slot.ensures) })
 
-returns-2 : tie.Need-returns-2
+returns-2 : tie.Need-returns-in-Present
 unfolding slot process_record physical_cell
 returns-2 c =
-    rw c.before.enum-told2.given.1
-    (record { is = c.physical-cell.ensures; low = omega (arith, c.physical-cell.ensures) })
+    rw c.in-Present.is
+    (record { is = c.physical_cell.ensures; low = omega (arith, c.physical_cell.ensures) })
 
 pub physical_cell_spec : {M : Type 1} → statement M
 unfolding slot

@@ -6,5 +6,5 @@ use Rattle.reading.proofs.form.store_cells.Tie as tie
 pub store_cells_spec : {M : Type 1} → statement M
 store_cells_spec =
     tie.close
-    (tie.spec (λ c. search rules) (λ c. search rules) (λ c. rw c.enum_told.given.1)
-    (λ c. rw c.enum-told2.given.1))
+    (tie.spec (λ c. search rules) (λ c. search rules) (λ c. rw c.in-Old.is)
+    (λ c. rw c.in-Present.is))

@@ -19,16 +19,16 @@ use Rattle.reading.proofs.log.channel.Statement.{statement}
 use Rattle.reading.proofs.log.channel.Tie as tie
 
 -- the bodies of the log are in their places, up to the i-th
-abbrev invariant-loop : tie.invariant-loop
+abbrev invariant-loop : tie.invariant-loop-i
 invariant-loop store channel at n bodies₀ i₀ bodies i =
     (length bodies ≡ array_places) × ((λ (j : ℕ). get_or bodies j 0) ≡ filled_below i (λ j. cell store (at + 1 + j)) 0)
 
-abbrev decreases-loop : tie.decreases-loop
+abbrev decreases-loop : tie.decreases-loop-i
 decreases-loop store channel at n bodies₀ i₀ bodies i = channel_places - i
 
 -- the log that is read, and where
-module _ (q : tie.After-channel-count-cell invariant-loop decreases-loop) where
-  abbrev asked : tie.Else1 invariant-loop decreases-loop
+module _ (q : tie.After-channel_count_cell-at invariant-loop decreases-loop) where
+  abbrev asked : tie.Else-channel-ge-CHANNELS invariant-loop decreases-loop
   asked = q.before.before
 
   abbrev start : tie.Start invariant-loop decreases-loop
@@ -44,55 +44,55 @@ module _ (q : tie.After-channel-count-cell invariant-loop decreases-loop) where
   log = channel_log start.args.channel
 
   abbrev at : ℕ
-  at = q.channel-count-cell.result
+  at = q.channel_count_cell-at.result
 
   begins : at ≡ count_cell F (stored_line st) log
-  begins = q.channel-count-cell.ensures.is ∙ ap (λ (n : ℕ). count_cell F n log) q.before.line.ensures
+  begins = q.channel_count_cell-at.ensures.is ∙ ap (λ (n : ℕ). count_cell F n log) q.line.ensures
 
   possibly : possible log ≡ true
-  possibly = lt-ltb start.args.channel channel_limit (omega (arith, asked.if1.left))
+  possibly = lt-ltb start.args.channel channel_limit (omega (arith, asked.if-channel-ge-CHANNELS.false))
 
 -- nothing is read
 empty_is : (r : Channel) → r ≡ empty_channel → entries r ≡ []
 unfolding entries tabulate
 empty_is r e = rw e refl
 
-returns : tie.Need-returns invariant-loop decreases-loop
+returns : tie.Need-returns-then-channel-ge-CHANNELS invariant-loop decreases-loop
 returns c =
-    let a = c.before.before.before.args in
+    let a = c.args in
     empty_is _ c.empty.ensures
     ∙ rw (none_such (form_of a.form) a.store.now (channel_log a.channel)
-    (le-ltb a.channel channel_limit c.before.if1.true)) refl
+    (le-ltb a.channel channel_limit c.if-channel-ge-CHANNELS.true)) refl
 
-returns-2 : tie.Need-returns-2 invariant-loop decreases-loop
+returns-2 : tie.Need-returns-then-store-at invariant-loop decreases-loop
 returns-2 c =
     let q = c.before.before in
-    empty_is _ c.empty2.ensures
-    ∙ rw (beyond (F q) (st q) (log q) (omega (arith, begins q, c.before.if2.true))) refl
+    empty_is _ c.empty-then-store-at.ensures
+    ∙ rw (beyond (F q) (st q) (log q) (omega (arith, begins q, c.if-store-at.true))) refl
 
-returns-3 : tie.Need-returns-3 invariant-loop decreases-loop
+returns-3 : tie.Need-returns-then-n invariant-loop decreases-loop
 unfolding cell
 returns-3 c =
     let q = c.before.before.before.before in
-    empty_is _ c.empty3.ensures
-    ∙ rw (over (F q) (st q) (log q) (rw (← (begins q)) c.before.if3.true)) refl
+    empty_is _ c.empty-then-n.ensures
+    ∙ rw (over (F q) (st q) (log q) (rw (← (begins q)) c.if-n.true)) refl
 
 -- what a turn came from
-abbrev from : tie.In-loop invariant-loop decreases-loop → tie.After-channel-count-cell invariant-loop decreases-loop
+abbrev from : tie.In-loop-i invariant-loop decreases-loop → tie.After-channel_count_cell-at invariant-loop decreases-loop
 from c = c.before.before.before.before.before
 
 -- the cell of its body is in the store
-inside : (c : tie.In-loop invariant-loop decreases-loop)
-    → at (from c) + 1 + c.before.loop.i < length (st (from c))
-inside c = omega (arith, c.before.before.before.before.if2.false, c.loop-test.true)
+inside : (c : tie.In-loop-i invariant-loop decreases-loop)
+    → at (from c) + 1 + c.loop-i.i < length (st (from c))
+inside c = omega (arith, c.if-store-at.false, c.loop-i-test.true)
 
-fits : (c : tie.In-loop invariant-loop decreases-loop) → at (from c) + 1 + c.before.loop.i < 70000
-fits c = omega (arith, (from c).channel-count-cell.ensures.low, c.loop-test.true)
+fits : (c : tie.In-loop-i invariant-loop decreases-loop) → at (from c) + 1 + c.loop-i.i < 70000
+fits c = omega (arith, (from c).channel_count_cell-at.ensures.low, c.loop-i-test.true)
 
-loop-again : tie.Need-loop-preserved invariant-loop decreases-loop
+loop-again : tie.Need-loop-i-preserved invariant-loop decreases-loop
 unfolding cell
 loop-again c =
-    let l = c.before.before.loop in
+    let l = c.loop-i in
     let q = from c.before in
     let body : ℕ → ℕ = λ j. cell (st q) (at q + 1 + j) in (
       simp length-set l.invariant.0,
@@ -104,18 +104,18 @@ plain_kinds : (p : Places) → p ≡ no_places → (j : ℕ) → j < array_place
 unfolding no_places
 plain_kinds p e j h = rw e (get_or-replicate array_places j 0 0 h)
 
-returns-4 : tie.Need-returns-4 invariant-loop decreases-loop
+returns-4 : tie.Need-returns invariant-loop decreases-loop
 unfolding cell logged bodies_by entries_by
 returns-4 c =
     let l = c.before.before.before in
     let q = l.before.before.before.before in
     ap entries c.held.ensures
     ∙ entries_messages _ (λ i. cell (st q) (at q + 1 + i))
-    (λ j h. plain_kinds _ c.before.blank.ensures j (omega arith))
-    (λ j h. ap (λ (f : ℕ → ℕ). f j) l.loop.invariant.1 ∙ rw (lt-ltb j l.loop.i (omega arith)))
+    (λ j h. plain_kinds _ c.blank-places.ensures j (omega arith))
+    (λ j h. ap (λ (f : ℕ → ℕ). f j) l.loop-i.invariant.1 ∙ rw (lt-ltb j l.loop-i.i (omega arith)))
     ∙ ap (messages false) (sym (bodies_are (st q) (at q) _))
-    ∙ rw (within (F q) (st q) (log q) (possibly q) (omega (arith, begins q, l.before.before.before.if2.false))
-    (rw (← (begins q)) (omega (arith, l.before.if3.false))))
+    ∙ rw (within (F q) (st q) (log q) (possibly q) (omega (arith, begins q, l.if-store-at.false))
+    (rw (← (begins q)) (omega (arith, l.if-n.false))))
     (ap (λ (a : ℕ). messages false (bodies_at (st q) a)) (begins q))
 
 pub channel_spec : {M : Type 1} → statement M
@@ -137,7 +137,7 @@ channel_spec =
     (λ c. omega (arith, fits c))
     (λ c. inside c.before)
     (λ c. omega arith)
-    (λ c. omega (arith, c.before.before.loop.invariant.0))
+    (λ c. omega (arith, c.loop-i.invariant.0))
     (λ c. omega arith) (λ c. omega arith)
     loop-again
     (λ c κs. search rules)

@@ -5,20 +5,20 @@ use Rattle.model.specs.Form.{cell, cells_from}
 use Rattle.reading.proofs.log.entered.Statement.{statement}
 use Rattle.reading.proofs.log.entered.Tie as tie
 
-old-read : tie.Need-shared-slice-read-t8
-old-read c = omega (arith, rw c.before.enum_told.given.1 at c.before.before.before.before.requires)
+old-read : tie.Need-bounds-store-at
+old-read c = omega (arith, rw c.in-Old.is at c.requires)
 
 entry_in : tie.Need-receipt-requires
-entry_in c κs = rw c.enum-told2.given.1 at c.before.before.before.requires
+entry_in c κs = rw c.in-Present.is at c.requires
 
-returns : tie.Need-returns
+returns : tie.Need-returns-in-Old
 unfolding cell cells_from
-returns c = rw c.before.before.enum_told.given.1 c.old-enter.ensures
+returns c = rw c.in-Old.is c.old_enter.ensures
 
-returns-2 : tie.Need-returns-2
+returns-2 : tie.Need-returns-in-Present
 returns-2 c =
     let r = c.before in
-    rw r.before.enum-told2.given.1 (c.enter.ensures ∙ ap (enter _) r.receipt.ensures)
+    rw r.in-Present.is (c.enter.ensures ∙ ap (enter _) r.receipt.ensures)
 
 pub entered_spec : {M : Type 1} → statement M
 entered_spec =

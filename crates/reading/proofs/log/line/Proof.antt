@@ -6,11 +6,11 @@ use Rattle.model.specs.Recover.{stored_line}
 use Rattle.reading.proofs.log.line.Statement.{statement}
 use Rattle.reading.proofs.log.line.Tie as tie
 
-returns : tie.Need-returns
+returns : tie.Need-returns-then-store-le-LINE_CELL
 unfolding stored_line cell
-returns c = sym (get_or-eq_default c.before.args.store.now 0 c.if1.true)
+returns c = sym (get_or-eq_default c.args.store.now 0 c.if-store-le-LINE_CELL.true)
 
-returns-2 : tie.Need-returns-2
+returns-2 : tie.Need-returns
 unfolding stored_line cell
 returns-2 c = refl
 

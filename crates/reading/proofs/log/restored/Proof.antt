@@ -12,25 +12,25 @@ no_rule true e = e
 no_rule false e = refl
 
 undone-requires : tie.Need-undone-requires
-undone-requires c κs = rw c.before.enum-told2.given.1 at c.before.before.before.before.requires
+undone-requires c κs = rw c.in-Present.is at c.requires
 
-old-form : tie.Need-returns
+old-form : tie.Need-returns-in-Old
 unfolding restore restore_by
 old-form c =
     let told = c.before in
-    rw (no_rule told.before.before.before.args.late (ap (λ f. (form_of f).leave) told.enum_told.given.1))
+    rw (no_rule told.args.late (ap (λ f. (form_of f).leave) told.in-Old.is))
     c.replayed.ensures
 
-late-process : tie.Need-returns-2
+late-process : tie.Need-returns-then-late
 unfolding restore restore_by
-late-process c = simp (c.before.before.enum-told2.given.1, c.before.if1.true) c.undone.ensures
+late-process c = simp (c.in-Present.is, c.if-late.true) c.undone.ensures
 
-early-process : tie.Need-returns-3
+early-process : tie.Need-returns-else-late
 unfolding restore restore_by
-early-process c = rw c.before.if1.false c.replayed2.ensures
+early-process c = rw c.if-late.false c.replayed-else-late.ensures
 
 pub restored_spec : {M : Type 1} → statement M
 restored_spec =
     tie.close
-    (tie.spec (λ c. search rules) (λ c κs. c.before.before.before.requires) (λ c. search rules) undone-requires
-    (λ c κs. c.before.before.before.before.requires) old-form late-process early-process)
+    (tie.spec (λ c. search rules) (λ c κs. c.requires) (λ c. search rules) undone-requires
+    (λ c κs. c.requires) old-form late-process early-process)

@@ -7,14 +7,14 @@ use Rattle.model.proofs.store.LogUndo.{LogUndo, undo_starts, undo_goes_on, undo_
 use Rattle.reading.proofs.log.undone.Statement.{statement}
 use Rattle.reading.proofs.log.undone.Tie as tie
 
-abbrev invariant-loop : tie.invariant-loop
+abbrev invariant-loop : tie.invariant-loop-i
 invariant-loop store at i₀ entry₀ word₀ i entry word =
     LogUndo leave store message_entry_cells (at + 1) (cell store (at + 1)) (cell store at) entry word i
 
-abbrev decreases-loop : tie.decreases-loop
+abbrev decreases-loop : tie.decreases-loop-i
 decreases-loop store at i₀ entry₀ word₀ i entry word = i
 
-loop-holds : tie.Need-loop-init invariant-loop decreases-loop
+loop-holds : tie.Need-loop-i-init invariant-loop decreases-loop
 unfolding cell
 loop-holds c = undo_starts (omega arith)
 
@@ -22,17 +22,17 @@ loop-holds c = undo_starts (omega arith)
 entry_in : tie.Need-receipt-requires invariant-loop decreases-loop
 entry_in c κs =
     let begun = c.before.before.before.before.before in
-    let inv = c.before.loop.invariant in
+    let inv = c.loop-i.invariant in
     omega (arith, inv.stands, inv.within, begun.requires.inside, begun.requires.count)
 
-loop-again : tie.Need-loop-preserved invariant-loop decreases-loop
+loop-again : tie.Need-loop-i-preserved invariant-loop decreases-loop
 loop-again c =
     let turn = c.before.before in
-    rw (c.leave.ensures, c.before.receipt.ensures)
-    (undo_goes_on turn.before.loop.invariant turn.loop-test.true)
+    rw (c.leave-word.ensures, c.receipt.ensures)
+    (undo_goes_on turn.loop-i.invariant turn.loop-i-test.true)
 
 returns : tie.Need-returns invariant-loop decreases-loop
-returns c = undo_ends c.before.loop.invariant (omega arith)
+returns c = undo_ends c.loop-i.invariant (omega arith)
 
 pub undone_spec : {M : Type 1} → statement M
 unfolding cell
@@ -42,7 +42,7 @@ undone_spec =
     (λ c. omega arith) (λ c. omega arith) (λ c. omega arith) (λ c. omega arith) (λ c. omega arith) (λ c. omega arith)
     (λ c. omega arith) (λ c. omega arith) (λ c. omega arith)
     loop-holds
-    (λ c. omega arith) (λ c. omega (arith, c.before.loop.invariant.stands)) entry_in (λ c κs. search rules)
+    (λ c. omega arith) (λ c. omega (arith, c.loop-i.invariant.stands)) entry_in (λ c κs. search rules)
     (λ c. omega arith)
     loop-again
     returns)

@@ -9,8 +9,8 @@ use Rattle.reading.proofs.log.word.Statement.{statement}
 use Rattle.reading.proofs.log.word.Tie as tie
 
 -- the log that is read, and where: its count stands after the physical checkpoint
-module _ (c : tie.After-process-cells) where
-  abbrev asked : tie.Else1
+module _ (c : tie.After-process_cells) where
+  abbrev asked : tie.Else-process-ge-PROCESSES
   asked = c.before.before.before
 
   abbrev start : tie.Start
@@ -26,43 +26,43 @@ module _ (c : tie.After-process-cells) where
   log = message_log start.args.process
 
   abbrev at : ℕ
-  at = c.before.physical-cell.result
+  at = c.physical_cell-at.result
 
   begins : at ≡ physical_cell F (stored_line st) start.args.process
   begins =
-      c.before.physical-cell.ensures.is
-      ∙ ap (λ (n : ℕ). physical_cell F n start.args.process) c.before.before.line.ensures
+      c.physical_cell-at.ensures.is
+      ∙ ap (λ (n : ℕ). physical_cell F n start.args.process) c.line.ensures
 
   counts : count_cell F (stored_line st) log ≡ at + 1
   unfolding physical_cell count_cell
   counts = ap (λ (n : ℕ). n + 1) (sym begins)
 
   possibly : possible log ≡ true
-  possibly = lt-ltb start.args.process process_limit (omega (arith, asked.if1.left))
+  possibly = lt-ltb start.args.process process_limit (omega (arith, asked.if-process-ge-PROCESSES.false))
 
-returns : tie.Need-returns
+returns : tie.Need-returns-then-process-ge-PROCESSES
 returns c =
-    let a = c.before.before.args in
+    let a = c.args in
     rw (none_such (form_of a.form) a.store.now (message_log a.process)
-    (le-ltb a.process process_limit c.if1.true))
+    (le-ltb a.process process_limit c.if-process-ge-PROCESSES.true))
 
-returns-2 : tie.Need-returns-2
+returns-2 : tie.Need-returns-then-store-at
 returns-2 c =
     let p = c.before in
-    rw (beyond (F p) (st p) (log p) (omega (arith, c.if2.true, counts p, p.process-cells.ensures.is)))
+    rw (beyond (F p) (st p) (log p) (omega (arith, c.if-store-at.true, counts p, p.process_cells.ensures.is)))
 
-returns-3 : tie.Need-returns-3
+returns-3 : tie.Need-returns-then-store-at-2
 unfolding cell
 returns-3 c =
-    let p = c.before.before.before in rw (over (F p) (st p) (log p) (rw (counts p) c.if3.true))
+    let p = c.before.before.before in rw (over (F p) (st p) (log p) (rw (counts p) c.if-store-at-2.true))
 
 restored-requires : tie.Need-restored-requires
 unfolding cell
 restored-requires c κs =
     let e = c.before.before in
-    record { inside = omega (arith, e.if2.false, e.before.process-cells.ensures.is); count = omega arith }
+    record { inside = omega (arith, e.if-store-at.false, e.process_cells.ensures.is); count = omega arith }
 
-returns-4 : tie.Need-returns-4
+returns-4 : tie.Need-returns
 unfolding cell restored receipts_by entries_by physical_cell count_cell
 returns-4 c =
     let d = c.before in
@@ -70,8 +70,8 @@ returns-4 c =
     let p = e.before in
     c.restored.ensures
     ∙ rw (within (F p) (st p) (log p) (possibly p)
-    (omega (arith, e.if2.false, counts p, p.process-cells.ensures.is))
-    (rw (counts p) (omega (arith, d.if3.false))))
+    (omega (arith, e.if-store-at.false, counts p, p.process_cells.ensures.is))
+    (rw (counts p) (omega (arith, d.if-store-at-2.false))))
     (ap (word_at (F p) _ (st p)) (begins p))
 
 pub word_spec : {M : Type 1} → statement M

@@ -8,9 +8,9 @@ use Rattle.reading.proofs.refusals.admit_cells.Tie as tie
 returns : tie.Need-returns
 unfolding initialize_refusal
 returns c =
-    let a = c.before.before.args in
-    c.long-enough.ensures
-    ∙ ap (λ found. length_refusal found (form_of a.form) a.cells) c.before.check.ensures
+    let a = c.args in
+    c.long_enough.ensures
+    ∙ ap (λ found. length_refusal found (form_of a.form) a.cells) c.check.ensures
 
 pub admit_cells_spec : {M : Type 1} → statement M
 admit_cells_spec = tie.close (tie.spec (λ c κs. search rules) (λ c κs. search rules) returns)

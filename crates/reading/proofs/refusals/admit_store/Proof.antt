@@ -7,35 +7,35 @@ use Rattle.model.specs.Recover.{recover_refusal}
 use Rattle.reading.proofs.refusals.admit_store.Statement.{statement}
 use Rattle.reading.proofs.refusals.admit_store.Tie as tie
 
-counts-fit-requires : tie.Need-counts-fit-requires
+counts-fit-requires : tie.Need-counts_fit-requires
 unfolding refusal_of
-counts-fit-requires c κs = sym c.before.before.admit-cells.ensures ∙ ap refusal_of c.enum_told.given.1
+counts-fit-requires c κs = sym c.admit_cells.ensures ∙ ap refusal_of c.in-Pass.is
 
-returns : tie.Need-returns
+returns : tie.Need-returns-then-counts_fit
 unfolding refusal_of recover_refusal or_else first_refusal
 returns c =
     let t = c.before.before in
     rw (
-      ← t.before.before.admit-cells.ensures,
-      t.enum_told.given.1,
-      ← c.before.counts-fit.ensures,
-      c.if1.true,
+      ← t.admit_cells.ensures,
+      t.in-Pass.is,
+      ← c.counts_fit.ensures,
+      c.if-counts_fit.true,
     )
 
-returns-2 : tie.Need-returns-2
+returns-2 : tie.Need-returns-else-counts_fit
 unfolding refusal_of recover_refusal or_else first_refusal
 returns-2 c =
     let t = c.before.before in
     rw (
-      ← t.before.before.admit-cells.ensures,
-      t.enum_told.given.1,
-      ← c.before.counts-fit.ensures,
-      c.if1.false,
+      ← t.admit_cells.ensures,
+      t.in-Pass.is,
+      ← c.counts_fit.ensures,
+      c.if-counts_fit.false,
     )
 
-returns-3 : tie.Need-returns-3
+returns-3 : tie.Need-returns-in-Refuse
 unfolding refusal_of recover_refusal or_else
-returns-3 c = rw (← c.before.before.before.admit-cells.ensures, c.before.r.given.1)
+returns-3 c = rw (← c.admit_cells.ensures, c.in-Refuse.is)
 
 pub admit_store_spec : {M : Type 1} → statement M
 admit_store_spec =

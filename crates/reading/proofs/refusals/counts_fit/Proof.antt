@@ -15,28 +15,28 @@ sized : (c : tie.Start) → Sized (form_of c.args.form) c.args.topology c.args.s
 sized c = sized_start (form_of c.args.form) c.args.topology c.args.store.now c.requires
 
 -- where the counts of the line's message logs begin
-abbrev start : tie.After-physical-cell → tie.Start
+abbrev start : tie.After-physical_cell-messages → tie.Start
 start c = c.before.before.before
 
-first : (c : tie.After-physical-cell) → let a = (start c).args in
-    c.physical-cell.result + 1 ≡ count_cell (form_of a.form) (stored_line a.store.now) (message_log 0)
+first : (c : tie.After-physical_cell-messages) → let a = (start c).args in
+    c.physical_cell-messages.result + 1 ≡ count_cell (form_of a.form) (stored_line a.store.now) (message_log 0)
 unfolding stored_line cell count_cell physical_cell
-first c = ap (λ (at : ℕ). at + 1) c.physical-cell.ensures.is
+first c = ap (λ (at : ℕ). at + 1) c.physical_cell-messages.ensures.is
 
-returns : tie.Need-returns
+returns : tie.Need-returns-then-not-at_most
 returns c =
     let m = c.before.before in
-    let tested = rw m.process-cells.ensures.is at c.before.at_most.ensures in
-    messages_over (sized (start m.before)) (first m.before) tested (not-true _ c.if1.true)
+    let tested = rw m.process_cells.ensures.is at c.at_most.ensures in
+    messages_over (sized (start m.before)) (first m.before) tested (not-true _ c.if-not-at_most.true-raw)
 
-returns-2 : tie.Need-returns-2
+returns-2 : tie.Need-returns
 unfolding stored_line cell
 returns-2 c =
     let e = c.before.before in
     let m = e.before.before in
-    let tested = rw m.process-cells.ensures.is at e.before.at_most.ensures in
-    messages_fit (sized (start m.before)) (first m.before) tested (not-false _ e.if1.false)
-    c.before.channel-count-cell.ensures.is c.at-most2.ensures
+    let tested = rw m.process_cells.ensures.is at e.at_most.ensures in
+    messages_fit (sized (start m.before)) (first m.before) tested (not-false _ e.if-not-at_most.false-raw)
+    c.channel_count_cell-channels.ensures.is c.at_most-2.ensures
 
 pub counts_fit_spec : {M : Type 1} → statement M
 counts_fit_spec =

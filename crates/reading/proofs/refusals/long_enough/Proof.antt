@@ -6,19 +6,19 @@ use Rattle.model.specs.Outcome.{refusal_of}
 use Rattle.reading.proofs.refusals.long_enough.Statement.{statement}
 use Rattle.reading.proofs.refusals.long_enough.Tie as tie
 
-returns : tie.Need-returns
+returns : tie.Need-returns-then-cells-store_cells
 unfolding refusal_of or_else first_refusal
 returns c =
-    rw (c.before.before.enum_told.given.1, ← c.before.store_cells.ensures, lt-ltb _ _ c.if1.true)
+    rw (c.in-Pass.is, ← c.store_cells.ensures, lt-ltb _ _ c.if-cells-store_cells.true)
 
-returns-2 : tie.Need-returns-2
+returns-2 : tie.Need-returns-else-cells-store_cells
 unfolding refusal_of or_else first_refusal
 returns-2 c =
-    rw (c.before.before.enum_told.given.1, ← c.before.store_cells.ensures, le-ltb _ _ c.if1.false)
+    rw (c.in-Pass.is, ← c.store_cells.ensures, le-ltb _ _ c.if-cells-store_cells.false)
 
-returns-3 : tie.Need-returns-3
+returns-3 : tie.Need-returns-in-Refuse
 unfolding refusal_of or_else
-returns-3 c = rw c.before.found.given.1
+returns-3 c = rw c.in-Refuse.is
 
 pub long_enough_spec : {M : Type 1} → statement M
 long_enough_spec =

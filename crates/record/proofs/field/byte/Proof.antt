@@ -8,23 +8,23 @@ use Rattle.record.proofs.field.byte.Statement.{statement}
 use Rattle.record.proofs.field.byte.Tie as tie
 
 -- past the tests, with the byte known
-abbrev present : tie.After-shared-slice-known2 → tie.Else1
+abbrev present : tie.After-shared_slice_known-2-1 → tie.Else-not-present
 present c = c.before.before
 
-abbrev start : tie.After-shared-slice-known2 → tie.Start
+abbrev start : tie.After-shared_slice_known-2-1 → tie.Start
 start c = (present c).before.before
 
-here : tie.Need-returns-3
+here : tie.Need-returns
 here c =
     let k = c.before in
     let a = (start k).args in
-    present_reads (not-false _ (present k).if1.false) (a_byte a.bytes.now a.at (omega arith))
-    (omega (arith, k.shared-slice-known2.given a.at)) (omega arith) c.nonzero.ensures
+    present_reads (not-false _ (present k).if-not-present.false-raw) (a_byte a.bytes.now a.at (omega arith))
+    (omega (arith, k.shared_slice_known-2-1.given a.at)) (omega arith) c.nonzero.ensures
 
 pub byte_spec : {M : Type 1} → statement M
 byte_spec =
     tie.close
-    (tie.spec (λ c. absent_reads (not-true _ c.if1.true) c.before.before.requires (omega arith))
-    (λ c. broken_reads (not-false _ c.before.if1.false) (no_byte _ _ c.if2.true)) (λ c. search rules)
-    (λ c. omega (arith, c.shared-slice-known2.given (start c).args.at)) (λ c. search rules)
+    (tie.spec (λ c. absent_reads (not-true _ c.if-not-present.true-raw) c.requires (omega arith))
+    (λ c. broken_reads (not-false _ c.if-not-present.false-raw) (no_byte _ _ c.if-bytes-at.true)) (λ c. search rules)
+    (λ c. omega (arith, c.shared_slice_known-2-1.given (start c).args.at)) (λ c. search rules)
     (λ c κs. search rules) here)

@@ -4,13 +4,13 @@ use Rattle.model.specs.Record.{absent}
 use Rattle.record.proofs.field.nonzero.Statement.{statement}
 use Rattle.record.proofs.field.nonzero.Tie as tie
 
-zero : tie.Need-returns
+zero : tie.Need-returns-then-value-eq0
 unfolding absent
-zero c = simp (eq-eqb _ 0 c.if1.true)
+zero c = simp (eq-eqb _ 0 c.if-value-eq0.true)
 
-other : tie.Need-returns-2
+other : tie.Need-returns-else-value-eq0
 unfolding absent
-other c = simp (ne_eqb _ 0 c.if1.false)
+other c = simp (ne_eqb _ 0 c.if-value-eq0.false)
 
 pub nonzero_spec : {M : Type 1} → statement M
 nonzero_spec = tie.close (tie.spec zero other)

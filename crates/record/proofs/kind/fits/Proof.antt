@@ -14,77 +14,77 @@ use Rattle.record.proofs.kind.fits.Tie as tie
 abbrev given : tie.Start → Fields
 given s = fields s.args.kind s.args.process s.args.channel s.args.body
 
-send : tie.Need-returns
+send : tie.Need-returns-in-1
 unfolding absent
-send c = sym (send_row (given c.before) c.match.keys1)
+send c = sym (send_row (given c.before) c.in-1.is)
 
-channel_alone : tie.Need-returns-2
+channel_alone : tie.Need-returns-then-process-eq0
 unfolding absent
 channel_alone c =
     let m = c.before in
-    sym (channel_rows (given m.before) m.match.keys2 ∙ rw (eq-eqb _ 0 c.if1.true))
+    sym (channel_rows (given m.before) m.in-2.is ∙ rw (eq-eqb _ 0 c.if-process-eq0.true))
 
-channel-more : tie.Need-returns-3
+channel-more : tie.Need-returns-else-process-eq0
 unfolding absent
 channel-more c =
     let m = c.before in
-    sym (channel_rows (given m.before) m.match.keys2 ∙ rw (ne_eqb _ 0 c.if1.false))
+    sym (channel_rows (given m.before) m.in-2.is ∙ rw (ne_eqb _ 0 c.if-process-eq0.false))
 
 -- the kinds 4 and 5
-module _ (c : tie.Then3) where
-  abbrev rest : tie.At-match-rest
+module _ (c : tie.In-4-to-5) where
+  abbrev rest : tie.In_default-1
   rest = c.before.before
 
-  four : 4 ≤ rest.before.args.kind
+  four : 4 ≤ rest.args.kind
   four =
-      let (((_, not-1), not-2-or-6), not-3) = rest.match.rest in
-      let not-2 : rest.before.args.kind ≡ 2 → ⊥ = λ e. not-2-or-6 (inl e) in
-      omega (arith, c.before.if2.false)
+      let (((_, not-1), not-2-or-6), not-3) = rest.in_default-1.rest in
+      let not-2 : rest.args.kind ≡ 2 → ⊥ = λ e. not-2-or-6 (inl e) in
+      omega (arith, c.if-kind-lt1.false)
 
-process-alone : tie.Need-returns-4
+process-alone : tie.Need-returns-then-channel-eq0
 unfolding absent
 process-alone c =
     let k = c.before in
-    sym (process_rows (given (rest k).before) (four k) k.if3.true ∙ rw (eq-eqb _ 0 c.if4.true))
+    sym (process_rows (given (rest k).before) (four k) k.in-4-to-5.if-kind-lt6-own.true ∙ rw (eq-eqb _ 0 c.if-channel-eq0.true))
 
-process-more : tie.Need-returns-5
+process-more : tie.Need-returns-else-channel-eq0
 unfolding absent
 process-more c =
     let k = c.before in
-    sym (process_rows (given (rest k).before) (four k) k.if3.true ∙ rw (ne_eqb _ 0 c.if4.false))
+    sym (process_rows (given (rest k).before) (four k) k.in-4-to-5.if-kind-lt6-own.true ∙ rw (ne_eqb _ 0 c.if-channel-eq0.false))
 
-low : tie.Need-returns-6
-low c = sym (no_row (given c.before.before) (inl c.if2.true))
+low : tie.Need-returns-in_default
+low c = sym (no_row (given c.before.before) (inl c.if-kind-lt1.true))
 
-high : tie.Need-returns-7
-high c = sym (no_row (given c.before.before.before.before) (inr c.if5.false))
+high : tie.Need-returns-in_default-2
+high c = sym (no_row (given c.before.before) (inr c.in_default.if-kind-lt10-own.false))
 
 -- the kinds 3, 7, 8 and 9
-row : (m : tie.At-match-branch)
+row : (m : tie.In-3-2)
     → let f = given m.before in
     is_record (record_of f) ≡ (absent f.process && absent f.channel && absent f.body)
 row m =
-    let kind = m.before.args.kind in
+    let kind = m.args.kind in
     plain_rows (given m.before)
     (⊎_elim (λ w. inl w.keys3)
     (λ w. let not-6 : kind ≡ 6 → ⊥ = λ e. w.0.rest.0.1 (inr e) in inr (omega arith, w.3.taken))
-    m.match.branch)
+    m.in-3-1.branch-raw)
 
-plain-alone : tie.Need-returns-8
+plain-alone : tie.Need-returns-then-channel-eq0-2
 unfolding absent
 plain-alone c =
     let k = c.before in
-    sym (row k.before ∙ rw (eq-eqb _ 0 k.if6.true, eq-eqb _ 0 c.if7.true))
+    sym (row k.before ∙ rw (eq-eqb _ 0 k.if-process-eq0-2.true, eq-eqb _ 0 c.if-channel-eq0-2.true))
 
-plain-channel : tie.Need-returns-9
+plain-channel : tie.Need-returns-else-channel-eq0-2
 unfolding absent
 plain-channel c =
     let k = c.before in
-    sym (row k.before ∙ rw (eq-eqb _ 0 k.if6.true, ne_eqb _ 0 c.if7.false))
+    sym (row k.before ∙ rw (eq-eqb _ 0 k.if-process-eq0-2.true, ne_eqb _ 0 c.if-channel-eq0-2.false))
 
-plain-process : tie.Need-returns-10
+plain-process : tie.Need-returns-else-process-eq0-2
 unfolding absent
-plain-process c = sym (row c.before ∙ rw (ne_eqb _ 0 c.if6.false))
+plain-process c = sym (row c.before ∙ rw (ne_eqb _ 0 c.if-process-eq0-2.false))
 
 pub fits_spec : {M : Type 1} → statement M
 fits_spec =

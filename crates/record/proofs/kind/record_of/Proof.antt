@@ -15,29 +15,29 @@ use Rattle.record.proofs.kind.record_of.Tie as tie
 abbrev given : tie.Start → Fields
 given s = fields s.args.kind s.args.process s.args.channel s.args.body
 
-there : (c : tie.Else1) → is_record (record_of (given c.before.before)) ≡ true
-there c = sym c.before.fits2.ensures ∙ not-false _ c.if1.false
+there : (c : tie.Else-not-fits) → is_record (record_of (given c.before.before)) ≡ true
+there c = sym c.fits2.ensures ∙ not-false _ c.if-not-fits.false-raw
 
-malformed : tie.Need-returns
-malformed c = none_answers _ (sym c.before.fits2.ensures ∙ not-true _ c.if1.true)
+malformed : tie.Need-returns-then-not-fits
+malformed c = none_answers _ (sym c.fits2.ensures ∙ not-true _ c.if-not-fits.true-raw)
 
-recover : tie.Need-returns-2
+recover : tie.Need-returns-then-kind-eq-RECOVER
 unfolding record_of
-recover c = rw c.if2.true (row_answers _ _ (rw c.if2.true at (there c.before)))
+recover c = rw c.if-kind-eq-RECOVER.true (row_answers _ _ (rw c.if-kind-eq-RECOVER.true at (there c.before)))
 
 -- past both tests, with the answer of step_of
-module _ (c : tie.After-step-of) where
+module _ (c : tie.After-step_of) where
   abbrev row : Option Record
   row = record_of (given c.before.before.before.before)
 
-  agrees : step_said c.step_of_lem.result ≡ decided row
-  agrees = c.step_of_lem.ensures ∙ step_answers _ c.before.if2.false (there c.before.before)
+  agrees : step_said c.step_of.result ≡ decided row
+  agrees = c.step_of.ensures ∙ step_answers _ c.if-kind-eq-RECOVER.false (there c.before.before)
 
-step : tie.Need-returns-3
-step c = let told = c.before in sym (ap step_said told.step.given.1) ∙ agrees told.before.before
+step : tie.Need-returns-in-Read
+step c = let told = c in sym (ap step_said told.in-Read.is) ∙ agrees told.before
 
-no_step : tie.Need-returns-4
-no_step c = let told = c.before in sym (ap step_said told.r.given.1) ∙ agrees told.before.before
+no_step : tie.Need-returns-in-Refused
+no_step c = let told = c in sym (ap step_said told.in-Refused.is) ∙ agrees told.before
 
 pub record_of_spec : {M : Type 1} → statement M
 record_of_spec =

@@ -6,20 +6,20 @@ use Rattle.record.specs.Written.{holding}
 use Rattle.record.proofs.pack.with_channel.Statement.{statement}
 use Rattle.record.proofs.pack.with_channel.Tie as tie
 
-neither : tie.Need-returns
-neither c = rw (c.before.before.if1.true, c.before.if2.true) c.with-process.ensures
+neither : tie.Need-returns-then-body-eq0
+neither c = rw (c.if-channel-eq0.true, c.if-body-eq0.true) c.with_process.ensures
 
-body : tie.Need-returns-2
+body : tie.Need-returns-then-channel-eq0
 unfolding write_fields map_of bit absent body_bytes field_bytes holding
-body c = rw (c.before.before.word_Bytes.ensures, c.before.if1.true, ne_eqb _ 0 c.if2.false)
+body c = rw (c.word_bytes-b.ensures, c.if-channel-eq0.true, ne_eqb _ 0 c.if-body-eq0.false)
 
-channel : tie.Need-returns-3
+channel : tie.Need-returns-then-body-eq0-2
 unfolding write_fields map_of bit absent field_bytes holding
-channel c = rw (ne_eqb _ 0 c.before.if1.false, c.if3.true)
+channel c = rw (ne_eqb _ 0 c.if-channel-eq0.false, c.if-body-eq0-2.true)
 
-both : tie.Need-returns-4
+both : tie.Need-returns
 unfolding write_fields map_of bit absent body_bytes field_bytes holding
-both c = rw (c.before.before.word_Bytes.ensures, ne_eqb _ 0 c.before.if1.false, ne_eqb _ 0 c.if3.false)
+both c = rw (c.word_bytes-b.ensures, ne_eqb _ 0 c.if-channel-eq0.false, ne_eqb _ 0 c.if-body-eq0-2.false)
 
 pub with_channel_spec : {M : Type 1} → statement M
 with_channel_spec =

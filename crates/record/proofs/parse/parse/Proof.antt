@@ -7,24 +7,24 @@ use Rattle.record.proofs.ParseLaws.{unread_parses, too_short, odd, even, bad_map
 use Rattle.record.proofs.parse.parse.Statement.{statement}
 use Rattle.record.proofs.parse.parse.Tie as tie
 
-short : tie.Need-returns
+short : tie.Need-returns-then-bytes-lt2
 unfolding read_record and_then
-short c = unread_parses (rw (too_short _ c.before.if1.true)) c.malformed.ensures
+short c = unread_parses (rw (too_short _ c.if-bytes-lt2.true)) c.malformed.ensures
 
-good : tie.Need-returns-2
+good : tie.Need-returns-then-map-lt-MAPS
 unfolding read_record and_then
 good c =
     let below = c.before in
     let odds = below.before in
     let long = odds.before.before in
-    rw (good_map_lem _ long.if1.false (odd _ odds.if2.true ∙ below.if3.true)) c.fields.ensures
+    rw (good_map_lem _ long.if-bytes-lt2.false (odd _ odds.if-map-eq1.true ∙ below.if-map-lt-MAPS.true-raw)) c.fields.ensures
 
-bad : tie.Need-returns-3
+bad : tie.Need-returns-else-map-eq1
 unfolding read_record and_then
 bad c =
     unread_parses
-    (rw (bad_map _ (⊎_elim (λ w. odd _ w.0.taken ∙ w.1.left) (λ w. even _ w.left) c.before.if2.branch)))
-    c.malformed2.ensures
+    (rw (bad_map _ (⊎_elim (λ w. odd _ w.0.taken ∙ w.1.left) (λ w. even _ w.left) c.else-map-eq1.branch-raw)))
+    c.malformed-else-map-eq1.ensures
 
 pub parse_spec : {M : Type 1} → statement M
 parse_spec =

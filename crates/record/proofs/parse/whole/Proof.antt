@@ -4,13 +4,13 @@ use Rattle.record.specs.Parse.{whole_of}
 use Rattle.record.proofs.parse.whole.Statement.{statement}
 use Rattle.record.proofs.parse.whole.Tie as tie
 
-read : tie.Need-returns
+read : tie.Need-returns-in-Read
 unfolding whole_of
-read c = rw c.enum_told.given.1
+read c = rw c.in-Read.is
 
-refused : tie.Need-returns-2
+refused : tie.Need-returns-in-Refused
 unfolding whole_of
-refused c = rw (c.malformed.ensures, c.before.enum-told2.given.1)
+refused c = rw (c.malformed.ensures, c.in-Refused.is)
 
 pub whole_spec : {M : Type 1} → statement M
 whole_spec =

@@ -11,24 +11,24 @@ use Rattle.model.proofs.laws.Functions.{get_d_within}
 use Rattle.report.proofs.ending.channel_at.Statement.{statement}
 use Rattle.report.proofs.ending.channel_at.Tie as tie
 
-past : tie.Need-returns
+past : tie.Need-returns-then-i-ge-CHANNELS
 past c =
-    let a = c.before.before.args in
-    let places : length a.t1 ≡ channel_limit = search rules in
-    let lengths : length a.t2 ≡ channel_limit = search rules in
+    let a = c.args in
+    let places : length a.places ≡ channel_limit = search rules in
+    let lengths : length a.lengths ≡ channel_limit = search rules in
     ap entries c.empty.ensures
     ∙ rw (
-      get_or-eq_default a.t1 no_places {n = a.c} (omega arith),
-      get_or-eq_default a.t2 0 {n = a.c} (omega arith),
+      get_or-eq_default a.places no_places {n = a.c} (omega arith),
+      get_or-eq_default a.lengths 0 {n = a.c} (omega arith),
     )
 
-here : tie.Need-returns-2
+here : tie.Need-returns
 here c =
-    let a = c.before.before.before.args in
-    let places : length a.t1 ≡ channel_limit = search rules in
+    let a = c.args in
+    let places : length a.places ≡ channel_limit = search rules in
     ap entries c.held.ensures
-    ∙ ap (λ (p : Places). entries (held p (get_or a.t2 a.c 0)))
-    (get_d_within a.t1 a.c _ no_places (omega arith))
+    ∙ ap (λ (p : Places). entries (held p (get_or a.lengths a.c 0)))
+    (get_d_within a.places a.c _ no_places (omega arith))
 
 pub channel_at_spec : {M : Type 1} → statement M
 channel_at_spec =

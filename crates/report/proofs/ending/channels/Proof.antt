@@ -21,12 +21,12 @@ use Rattle.report.proofs.ending.channels.Tie as tie
 abbrev line_of : (ℕ → List Entry) → ℕ → List ℕ
 line_of channel i = channel_text i (bodies (channel i))
 
-abbrev invariant-loop : tie.invariant-loop
+abbrev invariant-loop : tie.invariant-loop-c
 invariant-loop n places lengths out₀ at next₀ c₀ out next c =
     let channel : ℕ → List Entry = entries_in places lengths in
     Appended (channel_bytes (most_entries n channel)) n (line_of channel) out₀ at c out next
 
-abbrev decreases-loop : tie.decreases-loop
+abbrev decreases-loop : tie.decreases-loop-c
 decreases-loop n places lengths out₀ at next₀ c₀ out next c = n - c
 
 -- the line of one of the first n channels is no longer than the longest
@@ -37,17 +37,17 @@ one_line {b} {a} {at} {r} n channel i l e t =
     at_most (subst (λ (es : List Entry). Appends (channel_bytes (length es)) b at (channel_text i (bodies es)) a r) e t)
     (omega (arith, each_at_most channel n i l))
 
-loop-again : tie.Need-loop-preserved invariant-loop decreases-loop
+loop-again : tie.Need-loop-c-preserved invariant-loop decreases-loop
 loop-again c =
     let line = c.before.before in
     let read = line.before.before in
     let inside = read.before in
-    one_appended inside.before.loop.invariant inside.loop-test.true
-    (one_line _ _ _ inside.loop-test.true read.channel-at.ensures line.channel-line.ensures)
+    one_appended inside.loop-c.invariant inside.loop-c-test.true
+    (one_line _ _ _ inside.loop-c-test.true read.channel_at-channel.ensures line.channel_line-next.ensures)
 
 pub channels_spec : {M : Type 1} → statement M
 channels_spec =
     tie.close
     (tie.spec invariant-loop decreases-loop (λ c. none_appended) (λ c κs. search rules) (λ c. search rules) (λ c κs. search rules)
-    (λ c. search rules) (λ c. search rules) loop-again (λ c. kept_length c.before.loop.invariant)
-    (λ c. all_appended c.before.loop.invariant c.loop-test.false))
+    (λ c. search rules) (λ c. search rules) loop-again (λ c. kept_length c.loop-c.invariant)
+    (λ c. all_appended c.loop-c.invariant c.loop-c-test.false))

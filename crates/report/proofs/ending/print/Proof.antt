@@ -10,7 +10,7 @@ unfolding view
 returns c =
     let channels = c.before.before in
     let processes = channels.before.before.before.before.before.before in
-    processes.processes.ensures then channels.channels.ensures
+    processes.processes-next.ensures then channels.channels.ensures
 
 pub print_spec : {M : Type 1} → statement M
 print_spec =

@@ -8,24 +8,24 @@ use Rattle.report.proofs.Printing.{Appended, none_appended, one_appended, all_ap
 use Rattle.report.proofs.ending.processes.Statement.{statement}
 use Rattle.report.proofs.ending.processes.Tie as tie
 
-abbrev invariant-loop : tie.invariant-loop
+abbrev invariant-loop : tie.invariant-loop-p
 invariant-loop n words out₀ at next₀ p₀ out next p =
     Appended process_bytes n (λ i. process_text i (get_or words i 0)) out₀ at p out next
 
-abbrev decreases-loop : tie.decreases-loop
+abbrev decreases-loop : tie.decreases-loop-p
 decreases-loop n words out₀ at next₀ p₀ out next p = n - p
 
-loop-again : tie.Need-loop-preserved invariant-loop decreases-loop
+loop-again : tie.Need-loop-p-preserved invariant-loop decreases-loop
 loop-again c =
     let line = c.before.before in
     let read = line.before in
     let inside = read.before.before in
-    one_appended inside.before.loop.invariant inside.loop-test.true
-    (rw read.word_at.ensures at line.process-line.ensures)
+    one_appended inside.loop-p.invariant inside.loop-p-test.true
+    (rw read.word_at.ensures at line.process_line-next.ensures)
 
 pub processes_spec : {M : Type 1} → statement M
 processes_spec =
     tie.close
     (tie.spec invariant-loop decreases-loop (λ c. none_appended) (λ c. search rules) (λ c κs. search rules) (λ c κs. search rules)
-    (λ c. search rules) (λ c. search rules) loop-again (λ c. kept_length c.before.loop.invariant)
-    (λ c. all_appended c.before.loop.invariant c.loop-test.false))
+    (λ c. search rules) (λ c. search rules) loop-again (λ c. kept_length c.loop-p.invariant)
+    (λ c. all_appended c.loop-p.invariant c.loop-p-test.false))

@@ -7,11 +7,11 @@ use Rattle.model.specs.Topology.{process_limit}
 use Rattle.report.proofs.ending.word_at.Statement.{statement}
 use Rattle.report.proofs.ending.word_at.Tie as tie
 
-past : tie.Need-returns
+past : tie.Need-returns-then-i-ge-PROCESSES
 past c =
-    let a = c.before.args in
-    let all : length a.t1 ≡ process_limit = search rules in
-    sym (get_or-eq_default a.t1 0 {n = a.p} (omega arith))
+    let a = c.args in
+    let all : length a.words ≡ process_limit = search rules in
+    sym (get_or-eq_default a.words 0 {n = a.p} (omega arith))
 
 pub word_at_spec : {M : Type 1} → statement M
 word_at_spec = tie.close (tie.spec past (λ c. search rules) (λ c. search rules) (λ c. search rules))

@@ -9,10 +9,10 @@ returns c =
     let number = c.before.before in
     let sign = number.before.before.before.before in
     let shown = sign.before.before.before.before.before in
-    shown.hex-bytes.ensures then sign.bytes.ensures then number.decimal.ensures
+    shown.hex_bytes-shown.ensures then sign.bytes-next.ensures then number.decimal.ensures
 
 pub call_spec : {M : Type 1} → statement M
 call_spec =
     tie.close
-    (tie.spec (λ c κs. search rules) (λ c. search rules) (λ c κs. search rules) (λ c κs. search rules)
+    (tie.spec (λ c. search rules) (λ c κs. search rules) (λ c κs. search rules)
     (λ c. search rules) returns)

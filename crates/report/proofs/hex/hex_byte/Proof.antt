@@ -8,7 +8,7 @@ returns c =
     let written = c.before.before in
     let low = written.before.before.before in
     let high = low.before in
-    rw (← high.hex-digit.ensures, ← low.hex-digit2.ensures) written.bytes.ensures
+    rw (← high.hex_digit.ensures, ← low.hex_digit-2.ensures) written.bytes.ensures
 
 pub hex_byte_spec : {M : Type 1} → statement M
 hex_byte_spec =

@@ -20,49 +20,49 @@ record Shown (bytes : List ℕ) (i : ℕ) (before : List ℕ) (at : ℕ) (after 
   places : i ≤ length bytes
   text : Appends (hex_bytes_bytes i) before at (hex_bytes (take i bytes)) after r
 
-abbrev invariant-loop : tie.invariant-loop
+abbrev invariant-loop : tie.invariant-loop-i
 invariant-loop out₀ at bytes next₀ i₀ t6 out next i = Shown bytes i out₀ at out next
 
-abbrev decreases-loop : tie.decreases-loop
+abbrev decreases-loop : tie.decreases-loop-i
 decreases-loop out₀ at bytes next₀ i₀ t6 out next i = length bytes - i
 
-loop-holds : tie.Need-loop-init invariant-loop decreases-loop
+loop-holds : tie.Need-loop-i-init invariant-loop decreases-loop
 unfolding hex_bytes
 loop-holds c = record { places = omega arith; text = nothing _ _ }
 
-loop-again : tie.Need-loop-preserved invariant-loop decreases-loop
+loop-again : tie.Need-loop-i-preserved invariant-loop decreases-loop
 loop-again c =
     let byte = c.before.before in
     let joined = byte.before.before.before in
     let at = joined.before.before in
-    let l = at.loop in
-    let args = at.before.before.before.args in
+    let l = at.loop-i in
+    let args = at.args in
     let bytes = args.bytes.now in
     let inside : l.i < length bytes = omega arith in
     let others : ℕ → List ℕ → Type 0 =
-    λ most text. Appends most args.out.now args.at text joined.if1.out joined.if1.next in
+    λ most text. Appends most args.out.now args.at text joined.if-i-gt0.out joined.if-i-gt0.next in
     ⊎_elim
     (λ w.
     let first : others (hex_bytes_bytes l.i + 1) (hex_bytes (take l.i bytes) ++ chars " ") =
     rw (w.6, w.7) (l.invariant.text then w.3.ensures) in
     let more = next_byte bytes l.i inside w.0.taken in
-    record { places = omega arith; text = rw more (at_most (first then byte.hex-byte.ensures) (omega arith)) })
+    record { places = omega arith; text = rw more (at_most (first then byte.hex_byte-next.ensures) (omega arith)) })
     (λ w.
     let first : others (hex_bytes_bytes l.i) (hex_bytes (take l.i bytes)) = rw (w.1, w.2) l.invariant.text in
     let more = first_byte bytes l.i inside (omega (arith, w.0.left)) in
-    record { places = omega arith; text = rw more (at_most (first then byte.hex-byte.ensures) (omega arith)) })
-    joined.if1.branch
+    record { places = omega arith; text = rw more (at_most (first then byte.hex_byte-next.ensures) (omega arith)) })
+    joined.if-i-gt0.branch-raw
 
 returns : tie.Need-returns invariant-loop decreases-loop
 returns c =
     let at = c.before in
-    let bytes = at.before.before.before.args.bytes.now in
-    let all : at.loop.i ≡ length bytes = omega arith in
-    rw (all, take-length bytes) at at.loop.invariant.text
+    let bytes = at.args.bytes.now in
+    let all : at.loop-i.i ≡ length bytes = omega arith in
+    rw (all, take-length bytes) at at.loop-i.invariant.text
 
 pub hex_bytes_spec : {M : Type 1} → statement M
 hex_bytes_spec =
     tie.close
-    (tie.spec invariant-loop decreases-loop loop-holds (λ c. search rules) (λ c κs. search rules) (λ c. search rules)
+    (tie.spec invariant-loop decreases-loop loop-holds (λ c κs. search rules) (λ c. search rules)
     (λ c κs. search rules) (λ c. search rules) (λ c. search rules) loop-again
-    (λ c. appended_length c.before.loop.invariant.text) returns)
+    (λ c. appended_length c.loop-i.invariant.text) returns)

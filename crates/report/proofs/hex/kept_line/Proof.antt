@@ -8,9 +8,9 @@ returns : tie.Need-returns
 returns c =
     let end = c.before.before in
     let call = end.before.before.before.before.before in
-    call.call.ensures then end.bytes.ensures
+    call.call-next.ensures then end.bytes.ensures
 
 pub kept_line_spec : {M : Type 1} → statement M
 kept_line_spec =
     tie.close
-    (tie.spec (λ c κs. search rules) (λ c. search rules) (λ c κs. search rules) (λ c. search rules) returns)
+    (tie.spec (λ c. search rules) (λ c κs. search rules) (λ c. search rules) returns)

@@ -8,9 +8,9 @@ returns : tie.Need-returns
 returns c =
     let end = c.before.before in
     let shown = end.before.before.before.before.before in
-    shown.hex-bytes.ensures then end.bytes.ensures
+    shown.hex_bytes-next.ensures then end.bytes.ensures
 
 pub plan_line_spec : {M : Type 1} → statement M
 plan_line_spec =
     tie.close
-    (tie.spec (λ c κs. search rules) (λ c. search rules) (λ c κs. search rules) (λ c. search rules) returns)
+    (tie.spec (λ c. search rules) (λ c κs. search rules) (λ c. search rules) returns)

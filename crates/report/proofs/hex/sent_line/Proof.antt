@@ -9,10 +9,10 @@ returns c =
     let room = c.before.before in
     let name = room.before.before.before.before in
     let call = name.before.before.before.before.before in
-    call.call.ensures then (name.bytes.ensures then room.last.ensures)
+    call.call-opened.ensures then (name.bytes-next.ensures then room.last.ensures)
 
 pub sent_line_spec : {M : Type 1} → statement M
 sent_line_spec =
     tie.close
-    (tie.spec (λ c κs. search rules) (λ c. search rules) (λ c κs. search rules) (λ c κs. search rules)
+    (tie.spec (λ c. search rules) (λ c κs. search rules) (λ c κs. search rules)
     (λ c. search rules) returns)
