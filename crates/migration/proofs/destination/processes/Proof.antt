@@ -54,18 +54,18 @@ inside c =
     let test = (found c).before in
     let sized = (known (start test)).sized in
     let line = stored_line (start test).args.source.now in
-    let count = in_store sized line _ (count_within sized line (message_log (at test)) test.if1.taken) in
-    omega (arith, count, (found c).physical_cell-at.ensures.is, wrote_length test.before.before.loop.invariant)
+    let count = in_store sized line _ (count_within sized line (message_log (at test)) test.loop-p-test.true) in
+    omega (arith, count, (found c).physical_cell-at.ensures.is, wrote_length test.loop-p.invariant)
 
 loop-again : tie.Need-loop-p-preserved invariant-loop decreases-loop
 unfolding stored_line cell physical_cell count_cell write write_all is_late
 loop-again c =
     let test = (found c).before in
-    let l = test.before.before.loop in
+    let l = test.loop-p in
     let known = (known (start test)).accepted in
-    one_wrote l.invariant test.if1.taken
+    one_wrote l.invariant test.loop-p-test.true
     (ap₂ (λ (a v : ℕ). set (set l.target a v) (a + 1) 0) (found c).physical_cell-at.ensures.is
-    (word_given _ (start test).args.topology _ known _ test.if1.taken c.is_late-late.ensures
+    (word_given _ (start test).args.topology _ known _ test.loop-p-test.true c.is_late-late.ensures
     c.word.ensures))
 
 returns : tie.Need-returns invariant-loop decreases-loop

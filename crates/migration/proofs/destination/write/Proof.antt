@@ -36,7 +36,7 @@ writes c =
     ++ channels_writes (form_of a.from) (form_of a.to) a.topology a.source.now
 
 both : (c : tie.After-channels)
-    → c.channels.new.1.1.1.1.0 ≡ write_all (start c).args.target.now (writes (start c))
+    → c.channels.new.target ≡ write_all (start c).args.target.now (writes (start c))
 both c =
     let a = (start c).args in
     let channels = channels_writes (form_of a.from) (form_of a.to) a.topology a.source.now in
@@ -44,7 +44,7 @@ both c =
     ∙ ap (λ (st : List ℕ). write_all st channels) c.processes.ensures
     ∙ sym (write_all_append a.target.now _ channels)
 
-still : (c : tie.After-channels) → length c.channels.new.1.1.1.1.0 ≡ length (start c).args.target.now
+still : (c : tie.After-channels) → length c.channels.new.target ≡ length (start c).args.target.now
 still c = ap length (both c) ∙ length_write_all (start c).args.target.now (writes (start c))
 
 slice-write-target : tie.Need-bounds-target-0
