@@ -129,14 +129,14 @@ module _ (b : tie.After-channel_count) where
   abbrev made : tie.After-struct_known-3-1
   made = goes.before
 
-  changed : Rewritten (s (here made)) (subject (here made)) (came made) tags.process_flag.last.0
+  changed : Rewritten (s (here made)) (subject (here made)) (came made) tags.process_flag.new.flags
       (record {
-        logical = logical.process_flag-2.last.0;
-        saved = saved.process_flag-3.last.0;
-        closed = closed.channel_flag.last.0;
-        sent = sent.channel_flag-2.last.0;
+        logical = logical.process_flag-2.new.flags;
+        saved = saved.process_flag-3.new.flags;
+        closed = closed.channel_flag.new.flags;
+        sent = sent.channel_flag-2.new.flags;
       })
-      (record { messages = messages.process_count.last.0; channels = b.channel_count.last.0 })
+      (record { messages = messages.process_count.new.counts; channels = b.channel_count.new.counts })
   changed =
       record {
         tags = tags.process_flag.ensures;
@@ -155,18 +155,18 @@ written_back : (j : tie.Joined-reset)
     → let t = made j.before in
     let k = here t in
     view j.if-reset.state
-    ≡ put_back (spot_at (s k) (x k) (subject k) (held (read t)).held.result) (came t) (view (s k))
+    ≡ put_back (spot_at (s k) (x k) (subject k) (held (read t)).held-held.result) (came t) (view (s k))
 written_back j =
     let b = j.before in
     let t = made b in
     let k = here t in
     ⊎_elim
-    (λ w. ap view w.2
-    ∙ put_tags (s k) (sizes k) (subject k) (inside k) (x k) _ (came t) (changed b) w.0.taken _
-    w.1.ensures)
-    (λ w. ap view w.3
-    ∙ put_plain (s k) (sizes k) (subject k) (inside k) (x k) _ (came t) (changed b) w.0.left _ _ w.1.ensures
-    w.2.ensures)
+    (λ w. ap view w.state-is
+    ∙ put_tags (s k) (sizes k) (subject k) (inside k) (x k) _ (came t) (changed b) w.if-reset.true _
+    w.plain_channels-state.ensures)
+    (λ w. ap view w.state-is
+    ∙ put_plain (s k) (sizes k) (subject k) (inside k) (x k) _ (came t) (changed b) w.if-reset.false _ _ w.places.ensures
+    w.used.ensures)
     j.if-reset.branch-raw
 
 accepted : tie.Need-returns
@@ -203,46 +203,46 @@ abbrev counted : tie.After-process_count → tie.In-At
 counted c = noted c.before.before
 
 abbrev putting : tie.After-places → tie.In-At
-putting c = here (made c.before.before)
+putting c = here (made c.before.before.before)
 
 -- the store is as long as before
 length-stopped : tie.Need-shape_of-store-then-not-came
 length-stopped c = search rules
 
 length-accepted : tie.Need-shape_of-store
-length-accepted c = let kept = (turned (made c.before.before)).turn.kept in search rules
+length-accepted c = let kept = (turned (made c.before.before)).turn-came.auto.store in search rules
 
 -- every need, in the order of the code
 pub step_spec : {M : Type 1} → statement M
 step_spec =
     let admit-requires : tie.Need-admit-requires = λ c κs. search rules in
-    let known_at : tie.Need-enum-known-at = λ c. search rules in
-    let known-refusal : tie.Need-enum-known-refusal = λ c. search rules in
+    let known_at : tie.Need-enum_known-at = λ c. search rules in
+    let known-refusal : tie.Need-enum_known-refusal = λ c. search rules in
     let refused-requires : tie.Need-refused-requires = λ c κs. search rules in
-    let cast-channel : tie.Need-overflow-cast-c = λ c. omega (arith, (inside c.before).channel) in
-    let cast-process : tie.Need-overflow-cast-p = λ c. omega (arith, (inside c.before.before).process) in
-    let offset-places : tie.Need-overflow-mul-held = λ c. omega (arith, (inside (reading c)).channel) in
-    let index-places : tie.Need-element-copy-out-held = λ c. (inside (reading c)).channel in
-    let index-lengths : tie.Need-element-copy-out-held-2 = λ c. (inside (reading c.before)).channel in
-    let held-requires : tie.Need-held-requires = λ c κs. search rules in
-    let offset-words : tie.Need-overflow-mul-word = λ c. omega (arith, (inside (at c)).process) in
-    let index-words : tie.Need-element-copy-out-word = λ c. (inside (at c)).process in
-    let index-tags : tie.Need-element-copy-out-tag = λ c. (inside (at c.before)).process in
+    let cast-channel : tie.Need-overflow_cast-c = λ c. omega (arith, (inside c.before).channel) in
+    let cast-process : tie.Need-overflow_cast-p = λ c. omega (arith, (inside c.before.before).process) in
+    let offset-places : tie.Need-offset_bounds-state-c = λ c. omega (arith, (inside (reading c)).channel) in
+    let index-places : tie.Need-bounds-state-c = λ c. (inside (reading c)).channel in
+    let index-lengths : tie.Need-bounds-state-c-2 = λ c. (inside (reading c.before)).channel in
+    let held-requires : tie.Need-held-held-requires = λ c κs. search rules in
+    let offset-words : tie.Need-offset_bounds-state-p = λ c. omega (arith, (inside (at c)).process) in
+    let index-words : tie.Need-bounds-state-p = λ c. (inside (at c)).process in
+    let index-tags : tie.Need-bounds-state-p-2 = λ c. (inside (at c.before)).process in
     let answer-stopped : tie.Need-answered-requires = λ c κs. search rules in
-    let offset_word : tie.Need-overflow-mul-state = λ c. omega (arith, (inside (writing c)).process) in
-    let index_word : tie.Need-element-write-state = λ c. (inside (writing c)).process in
-    let index-tag : tie.Need-process-flag-requires = λ c κs. (inside (writing c.before)).process in
-    let index-logical : tie.Need-process-flag-requires-2 = λ c κs. (inside (tagged c.before)).process in
-    let index-saved : tie.Need-process-flag-requires-3 = λ c κs. (inside (marked c.before)).process in
-    let index-closed : tie.Need-channel-flag-requires = λ c κs. (inside (copied c.before)).channel in
-    let index-sent : tie.Need-channel-flag-requires-2 = λ c κs. (inside (shut c.before)).channel in
-    let index-messages : tie.Need-process-count-requires = λ c κs. (inside (noted c.before)).process in
-    let index-channels : tie.Need-channel-count-requires = λ c κs. (inside (counted c.before)).channel in
+    let offset_word : tie.Need-offset_bounds-state-p-2 = λ c. omega (arith, (inside (writing c)).process) in
+    let index_word : tie.Need-bounds-state-p-3 = λ c. (inside (writing c)).process in
+    let index-tag : tie.Need-process_flag-requires = λ c κs. (inside (writing c.before)).process in
+    let index-logical : tie.Need-process_flag-requires-2 = λ c κs. (inside (tagged c.before)).process in
+    let index-saved : tie.Need-process_flag-requires-3 = λ c κs. (inside (marked c.before)).process in
+    let index-closed : tie.Need-channel_flag-requires = λ c κs. (inside (copied c.before)).channel in
+    let index-sent : tie.Need-channel_flag-requires-2 = λ c κs. (inside (shut c.before)).channel in
+    let index-messages : tie.Need-process_count-requires = λ c κs. (inside (noted c.before)).process in
+    let index-channels : tie.Need-channel_count-requires = λ c κs. (inside (counted c.before)).channel in
     let places-requires : tie.Need-places-requires = λ c κs. search rules in
-    let offset-channel : tie.Need-overflow-mul-t56 = λ c. omega (arith, (inside (putting c)).channel) in
-    let index-channel : tie.Need-element-set-from-state = λ c. (inside (putting c)).channel in
+    let offset-channel : tie.Need-offset_bounds-state-c-else-reset = λ c. omega (arith, (inside (putting c)).channel) in
+    let index-channel : tie.Need-bounds-state-c-else-reset = λ c. (inside (putting c)).channel in
     let used-requires : tie.Need-used-requires = λ c κs. search rules in
-    let index-length : tie.Need-element-write-state-2 = λ c. (inside (putting c.before)).channel in
+    let index-length : tie.Need-bounds-state-c-else-reset-2 = λ c. (inside (putting c.before.before)).channel in
     let answer-accepted : tie.Need-answered-requires-2 = λ c κs. search rules in
     tie.close
     (tie.spec admit-requires known_at known-refusal refused-requires refused cast-channel cast-process offset-places

@@ -110,13 +110,13 @@ module _ (e : tie.Else-not-may) where
   passes : Passes (s asked) (PhysicalCheckpoint (s asked).process)
   passes g v = checks _ g v ∙ rw may
 
-add-physical-cell : tie.Need-overflow-add-physical-cell
+add-physical-cell : tie.Need-overflow_add-round
 add-physical-cell c =
     let e = c.before.before in
     let x = s (asked e) in
     omega (
       arith,
-      next_line_lem (start (asked e)).pre.0 (busy x.round.phase x.process (late_at x) _ _ (may e)) (omega arith),
+      next_line_lem (start (asked e)).requires.0 (busy x.round.phase x.process (late_at x) _ _ (may e)) (omega arith),
     )
 
 put-requires : tie.Need-put-requires
@@ -132,7 +132,7 @@ module _ (p : tie.After-put) where
   abbrev at : Spot
   at = s (asked e)
 
-  written : p.put.last.0
+  written : p.put.new.store
       ≡ write_all (start (asked e)).args.store.now
       (take (start (asked e)).args.budget (one_write (physical_cell (at.round.line + 1) at.process) at.word))
   written = rw p.physical_cell-at.ensures at p.put.ensures.store

@@ -15,7 +15,7 @@ add-in-messages c = omega (arith, a_bit (start c.before.before).args.x.message_l
 
 returns : tie.Need-returns
 returns c =
-    let a = (start c.before.before.before.before).args in
+    let a = c.args in
     record {
       round = refl;
       held = c.pop-rest.ensures;

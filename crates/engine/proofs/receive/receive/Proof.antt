@@ -74,7 +74,7 @@ module _ (e : tie.Else-full) where
   may g v = checks (decided p) g v ∙ rw (e.if-x-s.false, room)
 
 log-requires : tie.Need-log-needed-requires
-log-requires c κs = let e = c.before.before in (fits (p e), room e, (start (p e)).pre.1)
+log-requires c κs = let e = c.before.before in (fits (p e), room e, (start (p e)).requires.1)
 
 power-lost : tie.Need-returns-then-budget-needed
 power-lost c =
@@ -100,18 +100,18 @@ pub receive_spec : {M : Type 1} → statement M
 receive_spec =
     let length-requires : tie.Need-length-requires = λ c κs. search rules in
     let refuse-empty : tie.Need-refused-requires = λ c κs. search rules in
-    let entry-at-requires : tie.Need-entry-at-requires = λ c κs. search rules in
+    let entry-at-requires : tie.Need-entry_at-e-requires = λ c κs. search rules in
     let receiver-requires : tie.Need-receiver-requires = λ c κs. search rules in
-    let react-requires : tie.Need-react-requires = λ c κs. search rules in
-    let refuse-closed : tie.Need-refused-requires-2 = λ c κs. search rules in
+    let react-requires : tie.Need-react-x-requires = λ c κs. search rules in
+    let refuse-closed : tie.Need-refused-requires-then-x-s = λ c κs. search rules in
     let full-requires : tie.Need-full-requires = λ c κs. search rules in
-    let refuse-full : tie.Need-refused-requires-3 = λ c κs. search rules in
+    let refuse-full : tie.Need-refused-requires-then-full = λ c κs. search rules in
     let receipt-requires : tie.Need-receipt-requires = λ c κs. search rules in
     let stopped-requires : tie.Need-stopped-requires = λ c κs. search rules in
-    let length_cut : tie.Need-same-length = λ c. search rules in
+    let length_cut : tie.Need-shape_of-store-then-budget-needed = λ c. search rules in
     let outcome-requires : tie.Need-outcome-requires = λ c κs. search rules in
     let went-requires : tie.Need-went-requires = λ c κs. search rules in
-    let length-received : tie.Need-same-length-2 = λ c. search rules in
+    let length-received : tie.Need-shape_of-store = λ c. search rules in
     tie.close
     (tie.spec length-requires refuse-empty channel-empty entry-at-requires receiver-requires react-requires
     refuse-closed marker-on-closed full-requires refuse-full log-full receipt-requires log-requires stopped-requires

@@ -1,15 +1,14 @@
 -- `engine::spot::read` meets its contract.
 use Rattle.std.proofs.Common.{arith, rules}
-use Rattle.model.proofs.laws.Functions.{length_of}
 use Rattle.engine.proofs.spot.read.Statement.{statement}
 use Rattle.engine.proofs.spot.read.Tie as tie
 
 through-requires : tie.Need-through-through-requires
 through-requires c κs =
     let flags = c.well_formed.1.1.1.1.1.0 in (
-      omega (arith, c.requires.processes, length_of _ c.args.flags.logical _ flags.1.1.0.1.0.1),
-      omega (arith, c.requires.processes, length_of _ c.args.flags.saved _ flags.1.1.1.0.1.0.1),
-      omega (arith, c.requires.channels, length_of _ c.args.flags.closed _ flags.1.1.1.1.0.1.0.1),
+      omega (arith, c.requires.processes, flags.1.1.0.1.0.1),
+      omega (arith, c.requires.processes, flags.1.1.1.0.1.0.1),
+      omega (arith, c.requires.channels, flags.1.1.1.1.0.1.0.1),
     )
 
 returns : tie.Need-returns
