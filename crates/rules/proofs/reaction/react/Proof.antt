@@ -31,7 +31,7 @@ physical-marker c channel =
 logical-marker : tie.Need-returns-in-Logical-phase
 unfolding view_reaction reaction_to
 logical-marker c channel =
- rw (c.in-Logical-phase.is, c.in-Marker.is)
+    rw (c.in-Logical-phase.is, c.in-Marker.is)
 
 pub react_spec : {M : Type 1} → statement M
 react_spec =
