@@ -5,12 +5,10 @@ use Rattle.model.proofs.laws.Bits.{bit_beyond}
 use Rattle.rules.proofs.late.is_late.Statement.{statement}
 use Rattle.rules.proofs.late.is_late.Tie as tie
 
-beyond : tie.Need-returns-then-p-ge-MAP_BITS
-beyond c = sym (bit_beyond _ 16 _ (omega arith) (omega arith))
-
 within : tie.Need-returns
 unfolding bit_of
 within c = refl
 
 pub is_late_spec : {M : Type 1} → statement M
-is_late_spec = tie.close (tie.spec beyond (λ c. search rules) within)
+is_late_spec =
+    tie.close (tie.spec (λ c. sym (bit_beyond _ 16 _ (omega arith) (omega arith))) (λ c. search rules) within)
