@@ -1,5 +1,5 @@
-# Reads the lists and then, with citations.awk, the documents (see tests/theorems), and each source that a list names,
-# in the layout of rt fmt.
+# Reads the names that are no theorem's, the lists and then, with citations.awk, the documents (see tests/theorems), and
+# each source that a list names, in the layout of rt fmt.
 
 # Each complaint once.
 function complain(text) {
@@ -228,9 +228,15 @@ function hold(file, name,    place) {
 }
 
 FNR == 1 {
+    files++
     enter()
     source = ""
     begin_document()
+}
+
+files == 1 {
+    known[$1]
+    next
 }
 
 FILENAME ~ /^tests\/stated\// {
