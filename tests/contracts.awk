@@ -32,7 +32,9 @@ in_use || /^ *(pub |pub[(][a-z]*[)] )?use / {
 
 /^ *(pub |pub[(][a-z]*[)] )?([a-z]+ |"C" )*fn / { begin_head() }
 
-crate == "slow" && !/^ *(\/\/|ghost )/ && names_another($0) { tell(FILENAME ":" FNR ": the slow engine names " another) }
+crate == "slow" && !/^ *(\/\/|ghost )/ && names_another($0) {
+    tell(FILENAME ":" FNR ": the slow engine names " another)
+}
 
 in_head && /^ *requires[ *{]/ { requires[functions] = clause = 1 }
 in_head && /^ *ensures[ *{]/ { ensures[functions] = clause = 1 }
