@@ -2,6 +2,7 @@
 use Rattle.std.proofs.Common.{◌≡◌, rules, length}
 use Rattle.model.specs.Program.{input_bytes}
 use Rattle.session.specs.Drill.{drill_text}
+use Rattle.report.proofs.Printing.{written_part}
 use Rattle.stream.proofs.Answer.{takes, prints}
 use Rattle.drill.proofs.answer.Goals as goal
 
@@ -15,3 +16,7 @@ returns-clause-printed g c =
     let long : length c.read_full.new.buffer ≡ input_bytes = search rules in
     prints _ _ (λ bytes text. text ≡ drill_text bytes) _ _ _ _ _ _ long c.in_ok-n.ensures.bytes c.drill-end.ensures.text
     c.write_all.ensures.bytes
+
+-- what is written out, the whole text, is a part of the buffer
+pub slice_bounds-out-end : goal.slice_bounds-out-end
+slice_bounds-out-end g c = (written_part c.drill-end.ensures).within
