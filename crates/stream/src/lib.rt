@@ -36,3 +36,55 @@ pub fn read_full<R: Read>(reader: &mut R, buffer: &mut [u8]) -> io::Result<usize
     }
     Ok(done)
 }
+
+#[cfg(test)]
+mod tests {
+    use super::*;
+    use std::io::ErrorKind;
+    use std::test::Fail;
+
+    // Gives so many times one byte of value 7, and then fails.
+    #[derive(Drop)]
+    struct Broken {
+        left: u8,
+    }
+
+    impl Read for Broken {
+        fn read(&mut self, buffer: &mut [u8]) -> io::Result<usize> {
+            if self.left == 0 {
+                return Err(io::Error::from(ErrorKind::BrokenPipe));
+            }
+            if buffer.is_empty() {
+                return Ok(0);
+            }
+            self.left -= 1;
+            buffer[0] = 7;
+            Ok(1)
+        }
+    }
+
+    #[test]
+    fn reads_to_the_end_or_until_full(rt: HostRuntime) -> Result<(), Fail> {
+        let mut reader: &[u8] = b"abcdefgh";
+        let mut buffer = [0; 5];
+        let first = read_full(&mut reader, &mut buffer)?;
+        assert_eq!(rt; first, 5);
+        assert_eq!(rt; buffer, *b"abcde");
+        let second = read_full(&mut reader, &mut buffer)?;
+        assert_eq!(rt; second, 3);
+        assert_eq!(rt; &buffer[..3], b"fgh".as_slice());
+        let third = read_full(&mut reader, &mut buffer)?;
+        assert_eq!(rt; third, 0);
+        Ok(())
+    }
+
+    #[test]
+    fn a_failed_read_is_told(rt: HostRuntime) -> Result<(), Fail> {
+        let mut buffer = [0; 5];
+        let full = read_full(&mut Broken { left: 5 }, &mut buffer)?;
+        assert_eq!(rt; full, 5);
+        let failed = read_full(&mut Broken { left: 4 }, &mut buffer);
+        assert!(rt; matches!(failed, Err(e) if e.kind() == ErrorKind::BrokenPipe));
+        Ok(())
+    }
+}
