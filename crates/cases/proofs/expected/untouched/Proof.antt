@@ -4,10 +4,10 @@ use lib.ListN.{length}
 use Rattle.cases.proofs.expected.untouched.Statement.{statement}
 use Rattle.cases.proofs.expected.untouched.Tie as tie
 
-abbrev invariant-loop : tie.invariant-loop
+abbrev invariant-loop : tie.invariant-loop-i
 invariant-loop store i₀ i = Unit
 
-abbrev decreases-loop : tie.decreases-loop
+abbrev decreases-loop : tie.decreases-loop-i
 decreases-loop store i₀ i = length store - i
 
 pub untouched_spec : {M : Type 1} → statement M

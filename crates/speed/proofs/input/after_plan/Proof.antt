@@ -3,8 +3,8 @@ use Rattle.std.proofs.Common.{length, ap, arith, length-drop, length-take, rules
 use Rattle.speed.proofs.input.after_plan.Statement.{statement}
 use Rattle.speed.proofs.input.after_plan.Tie as tie
 
-fewer : tie.Need-overflow-sub-result
-fewer c = omega (arith, simp (length-drop, length-take) at (ap length c.rest.ensures))
+fewer : tie.Need-overflow_sub-result
+fewer c = omega (arith, simp (length-drop, length-take) at (ap length c.rest-after.ensures))
 
 pub after_plan_spec : {M : Type 1} → statement M
 after_plan_spec =

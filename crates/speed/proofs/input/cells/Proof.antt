@@ -3,10 +3,10 @@ use Rattle.std.proofs.Common.{◌≡◌, ◌-◌, length, rules}
 use Rattle.speed.proofs.input.cells.Statement.{statement}
 use Rattle.speed.proofs.input.cells.Tie as tie
 
-abbrev invariant-loop : tie.invariant-loop
+abbrev invariant-loop : tie.invariant-loop-i
 invariant-loop store₀ bytes at₀ i₀ store at i = length store ≡ length store₀
 
-abbrev decreases-loop : tie.decreases-loop
+abbrev decreases-loop : tie.decreases-loop-i
 decreases-loop store₀ bytes at₀ i₀ store at i = length store₀ - i
 
 pub cells_spec : {M : Type 1} → statement M

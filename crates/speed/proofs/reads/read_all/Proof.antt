@@ -9,10 +9,10 @@ use Rattle.record.proofs.ReadsBack.{read_writes, read_shortens}
 use Rattle.speed.proofs.reads.read_all.Statement.{statement}
 use Rattle.speed.proofs.reads.read_all.Tie as tie
 
-abbrev invariant-loop : tie.invariant-loop
+abbrev invariant-loop : tie.invariant-loop-left
 invariant-loop sum bytes r₀ left₀ r left = AreBytes left
 
-abbrev decreases-loop : tie.decreases-loop
+abbrev decreases-loop : tie.decreases-loop-left
 decreases-loop sum bytes r₀ left₀ r left = length left
 
 -- the bytes after a record that was read
@@ -22,25 +22,23 @@ rest_bytes bytes r h e =
     later_bytes (bytes_of (written r)) (remaining (read_record bytes) bytes) (read_writes bytes r h e) h
 
 -- a record was read, and the bytes after it are left
-module _ (c : tie.After-rest invariant-loop decreases-loop) where
-  abbrev at-loop : tie.At-loop invariant-loop decreases-loop
-  at-loop = c.before.before.before.before.before.before.before.before
+module _ (c : tie.After-rest-after invariant-loop decreases-loop) where
+  abbrev at-loop : tie.At-loop-left invariant-loop decreases-loop
+  at-loop = c.before.before.before.before.before.before
 
-  answer : record_in (read_record at-loop.loop.left.now)
-      ≡ record_is c.before.before.before.before.found.given.0.0
-  answer =
-      let f = c.before.before.before.before in
-      sym f.before.before.read.ensures ∙ ap record_said f.found.given.1
+  answer : record_in (read_record at-loop.loop-left.left.now)
+      ≡ record_is c.in-Read.found
+  answer = sym c.read.ensures ∙ ap record_said c.in-Read.is
 
-loop-less : tie.Need-loop-smaller invariant-loop decreases-loop
+loop-less : tie.Need-loop-left-smaller invariant-loop decreases-loop
 loop-less c =
-    let l = (at-loop c).loop in
-    rw c.rest.ensures (read_shortens l.left.now _ l.inv (answer c))
+    let l = (at-loop c).loop-left in
+    rw c.rest-after.ensures (read_shortens l.left.now _ l.invariant (answer c))
 
-loop-again : tie.Need-loop-preserved invariant-loop decreases-loop
+loop-again : tie.Need-loop-left-preserved invariant-loop decreases-loop
 loop-again c =
-    let l = (at-loop c).loop in
-    rw c.rest.ensures (rest_bytes l.left.now _ l.inv (answer c))
+    let l = (at-loop c).loop-left in
+    rw c.rest-after.ensures (rest_bytes l.left.now _ l.invariant (answer c))
 
 pub read_all_spec : {M : Type 1} → statement M
 read_all_spec =
@@ -48,7 +46,7 @@ read_all_spec =
     (tie.spec
     invariant-loop
     decreases-loop
-    (λ c i. omega (arith, c.shared-slice-known.given i))
+    (λ c i. omega (arith, c.shared_slice_known-1.given i))
     (λ c κs. search rules)
     (λ c. search rules)
     (λ c. search rules)

@@ -3,17 +3,16 @@ use Rattle.std.proofs.Common.{◌≡◌, ◌-◌, length, ⊎_elim, length-set, 
 use Rattle.speed.proofs.reads.run.Statement.{statement}
 use Rattle.speed.proofs.reads.run.Tie as tie
 
-abbrev invariant-loop : tie.invariant-loop
+abbrev invariant-loop : tie.invariant-loop-i
 invariant-loop times bytes₀ sum₀ i₀ bytes sum i = length bytes ≡ length bytes₀
 
-abbrev decreases-loop : tie.decreases-loop
+abbrev decreases-loop : tie.decreases-loop-i
 decreases-loop times bytes₀ sum₀ i₀ bytes sum i = times - i
 
-loop-again : tie.Need-loop-preserved invariant-loop decreases-loop
+loop-again : tie.Need-loop-i-preserved invariant-loop decreases-loop
 loop-again c =
-    let j = c.before.before in
-    let l = j.before.before.loop in
-    ⊎_elim (λ w. rw w.1 (simp length-set l.invariant)) (λ w. rw w.1 l.invariant) j.if1.branch
+    let l = c.loop-i in
+    ⊎_elim (λ w. rw w.bytes-is (simp length-set l.invariant)) (λ w. rw w.bytes-is l.invariant) c.if-bytes-gt3.branch-raw
 
 pub run_spec : {M : Type 1} → statement M
 run_spec =

@@ -4,10 +4,10 @@ use Rattle.model.specs.Layout.{store_cells}
 use Rattle.speed.proofs.recovers.run.Statement.{statement}
 use Rattle.speed.proofs.recovers.run.Tie as tie
 
-abbrev invariant-loop : tie.invariant-loop
+abbrev invariant-loop : tie.invariant-loop-i
 invariant-loop topology times bytes store₀ state₀ sum₀ i₀ store state sum i = length store ≡ store_cells
 
-abbrev decreases-loop : tie.decreases-loop
+abbrev decreases-loop : tie.decreases-loop-i
 decreases-loop topology times bytes store₀ state₀ sum₀ i₀ store state sum i = times - i
 
 pub run_spec : {M : Type 1} → statement M

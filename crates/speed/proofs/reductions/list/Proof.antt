@@ -5,10 +5,10 @@ use Rattle.model.specs.CallList.{list_limit}
 use Rattle.speed.proofs.reductions.list.Statement.{statement}
 use Rattle.speed.proofs.reductions.list.Tie as tie
 
-abbrev invariant-loop : tie.invariant-loop
+abbrev invariant-loop : tie.invariant-loop-count
 invariant-loop script turn calls₀ count₀ left₀ calls count left = (length calls ≡ list_limit) × (count ≤ list_limit)
 
-abbrev decreases-loop : tie.decreases-loop
+abbrev decreases-loop : tie.decreases-loop-count
 decreases-loop script turn calls₀ count₀ left₀ calls count left = length left
 
 pub list_spec : {M : Type 1} → statement M

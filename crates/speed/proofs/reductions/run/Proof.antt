@@ -3,10 +3,10 @@ use Rattle.std.proofs.Common.{◌-◌, rules}
 use Rattle.speed.proofs.reductions.run.Statement.{statement}
 use Rattle.speed.proofs.reductions.run.Tie as tie
 
-abbrev invariant-loop : tie.invariant-loop
+abbrev invariant-loop : tie.invariant-loop-i
 invariant-loop topology times script sum₀ i₀ sum i = Unit
 
-abbrev decreases-loop : tie.decreases-loop
+abbrev decreases-loop : tie.decreases-loop-i
 decreases-loop topology times script sum₀ i₀ sum i = times - i
 
 pub run_spec : {M : Type 1} → statement M

@@ -4,10 +4,10 @@ use Rattle.model.specs.Layout.{store_cells}
 use Rattle.speed.proofs.steps.run.Statement.{statement}
 use Rattle.speed.proofs.steps.run.Tie as tie
 
-abbrev invariant-loop : tie.invariant-loop
+abbrev invariant-loop : tie.invariant-loop-i
 invariant-loop times script store₀ now₀ i₀ store now i = length store ≡ store_cells
 
-abbrev decreases-loop : tie.decreases-loop
+abbrev decreases-loop : tie.decreases-loop-i
 decreases-loop times script store₀ now₀ i₀ store now i = times - i
 
 pub run_spec : {M : Type 1} → statement M

@@ -3,10 +3,10 @@ use Rattle.std.proofs.Common.{◌≡◌, length, rules}
 use Rattle.speed.proofs.steps.turn.Statement.{statement}
 use Rattle.speed.proofs.steps.turn.Tie as tie
 
-abbrev invariant-loop : tie.invariant-loop
+abbrev invariant-loop : tie.invariant-loop-left
 invariant-loop number script store₀ state₀ sum₀ left₀ store state sum left = length store ≡ length store₀
 
-abbrev decreases-loop : tie.decreases-loop
+abbrev decreases-loop : tie.decreases-loop-left
 decreases-loop number script store₀ state₀ sum₀ left₀ store state sum left = length left
 
 pub turn_spec : {M : Type 1} → statement M

@@ -3,10 +3,10 @@ use Rattle.std.proofs.Common.{◌-◌, length, rules}
 use Rattle.speed.proofs.sum.cell_sum.Statement.{statement}
 use Rattle.speed.proofs.sum.cell_sum.Tie as tie
 
-abbrev invariant-loop : tie.invariant-loop
+abbrev invariant-loop : tie.invariant-loop-i
 invariant-loop sum store r₀ i₀ r i = Unit
 
-abbrev decreases-loop : tie.decreases-loop
+abbrev decreases-loop : tie.decreases-loop-i
 decreases-loop sum store r₀ i₀ r i = length store - i
 
 pub cell_sum_spec : {M : Type 1} → statement M

@@ -3,10 +3,10 @@ use Rattle.std.proofs.Common.{◌-◌, rules}
 use Rattle.speed.proofs.sum.channel_sum.Statement.{statement}
 use Rattle.speed.proofs.sum.channel_sum.Tie as tie
 
-abbrev invariant-loop : tie.invariant-loop
+abbrev invariant-loop : tie.invariant-loop-i
 invariant-loop sum c all r₀ i₀ r i = Unit
 
-abbrev decreases-loop : tie.decreases-loop
+abbrev decreases-loop : tie.decreases-loop-i
 decreases-loop sum c all r₀ i₀ r i = all - i
 
 pub channel_sum_spec : {M : Type 1} → statement M

@@ -3,10 +3,10 @@ use Rattle.std.proofs.Common.{◌-◌, rules}
 use Rattle.speed.proofs.sum.whole_sum.Statement.{statement}
 use Rattle.speed.proofs.sum.whole_sum.Tie as tie
 
-abbrev invariant-loop : tie.invariant-loop
+abbrev invariant-loop : tie.invariant-loop-c
 invariant-loop sum store places lengths r₀ c₀ r c = Unit
 
-abbrev decreases-loop : tie.decreases-loop
+abbrev decreases-loop : tie.decreases-loop-c
 decreases-loop sum store places lengths r₀ c₀ r c = 64 - c
 
 pub whole_sum_spec : {M : Type 1} → statement M

@@ -3,10 +3,10 @@ use Rattle.std.proofs.Common.{◌≡◌, ◌-◌, length, rules}
 use Rattle.speed.proofs.writes.run.Statement.{statement}
 use Rattle.speed.proofs.writes.run.Tie as tie
 
-abbrev invariant-loop : tie.invariant-loop
+abbrev invariant-loop : tie.invariant-loop-i
 invariant-loop times script out₀ sum₀ i₀ out sum i = length out ≡ 65536
 
-abbrev decreases-loop : tie.decreases-loop
+abbrev decreases-loop : tie.decreases-loop-i
 decreases-loop times script out₀ sum₀ i₀ out sum i = times - i
 
 pub run_spec : {M : Type 1} → statement M
