@@ -1,5 +1,6 @@
 -- A log of a store is whole or isn't, by its two tests; and every planned log of a store that isn't refused is.
-use Rattle.std.proofs.Common.{◌≡◌, ℕ, ◌+◌, ◌*◌, ◌<◌, ◌≤◌, Bool, true, false, ltb, List, length, refl, ◌∙◌, arith, le-ltb, lt-ltb, le-leb}
+use Rattle.std.proofs.Common.{◌≡◌, ℕ, ◌+◌, ◌*◌, ◌<◌, ◌≤◌, Bool, true, false, ltb, List, length, refl, ◌∙◌}
+use Rattle.std.proofs.Common.{arith, le-ltb, lt-ltb, le-leb}
 use mathlib.Core.Option.{none}
 use borrow.Author.Tests.{lt-leb}
 use Rattle.model.specs.declared.Topology.{Topology}
@@ -12,7 +13,7 @@ use Rattle.model.proofs.laws.Tests.{and_both, and_false}
 use Rattle.model.proofs.laws.TopologyLaws.{Planned}
 use Rattle.model.proofs.store.Sizes.{Sized}
 use Rattle.model.proofs.store.Addresses.{in_store, log_within}
-use Rattle.model.proofs.store.Readable.{Readable, readable}
+use Rattle.model.proofs.store.Readable.{readable}
 use Rattle.reading.specs.Source.{possible, whole, word_read, channel_read}
 
 -- the cell of its count, and that of its last place

@@ -2,7 +2,7 @@
 use mathlib.Core.Path.{◌≡◌, refl, sym, ap, ◌∙◌}
 use mathlib.Core.Option.{none}
 use borrow.Author.Rules.{rules}
-use Rattle.model.specs.Start.{recover, recover_refusal}
+use Rattle.model.specs.Start.{recover_refusal}
 use Rattle.model.specs.Outcome.{refusal_of}
 use Rattle.model.specs.Recover as recovery
 use Rattle.recovery.proofs.Recovering.{starts_ready, starts_refused}

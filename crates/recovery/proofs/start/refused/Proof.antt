@@ -1,5 +1,5 @@
 -- `recovery::start::refused` meets its contract.
-use mathlib.Core.Path.{refl, ap, ◌∙◌}
+use mathlib.Core.Path.{refl}
 use borrow.Author.Rules.{rules}
 use Rattle.model.specs.State.{blank_state}
 use Rattle.recovery.proofs.start.refused.Statement.{statement}
