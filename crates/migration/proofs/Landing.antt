@@ -7,7 +7,8 @@ use lib.ListN.{length, get_or}
 use native.Mathlib.Omega.{arith}
 use Rattle.model.specs.declared.Topology.{Topology}
 use Rattle.model.specs.Notation.{concat_below}
-use Rattle.model.specs.Form.{Form, cell, line_cell, Log, message_log, channel_log, channel_places, physical_cell, count_cell}
+use Rattle.model.specs.Form.{Form, cell, line_cell, Log, message_log, channel_log, channel_places}
+use Rattle.model.specs.Form.{physical_cell, count_cell}
 use Rattle.model.specs.Write.{Write, write_all, cell_writes, commit_writes}
 use Rattle.model.proofs.laws.TopologyLaws.{Planned}
 use Rattle.model.proofs.store.Writes.{Each, each_append, each_map, each_concat}

@@ -85,7 +85,8 @@ module _ (F G : Form) (T : Topology) (source target : List ℕ) (r : Carriable F
   unfolding counts_fit
   counts_fit_lem =
       rw line_is
-      (and_both _ _ (all_of T.processes (λ p. count_fits G after k (message_log p)) (λ p. count_fits_lem (message_log p)))
+      (and_both _ _
+      (all_of T.processes (λ p. count_fits G after k (message_log p)) (λ p. count_fits_lem (message_log p)))
       (all_of T.channels (λ c. count_fits G after k (channel_log c)) (λ c. count_fits_lem (channel_log c))))
 
   accepted : recover_refusal G T after ≡ none

@@ -17,7 +17,8 @@ finished_word F T source p = restored F (is_late T p) source (stored_line source
 -- "The finished line's words become copies with empty board logs"
 abbrev pub process_writes : Form → ℕ → ℕ → ℕ → List Write
 process_writes G n p word =
-    record { cell = physical_cell G n p; value = word } ∷ record { cell = count_cell G n (message_log p); value = 0 } ∷ []
+    record { cell = physical_cell G n p; value = word }
+    ∷ record { cell = count_cell G n (message_log p); value = 0 } ∷ []
 
 unfoldable pub processes_writes : Form → Form → Topology → List ℕ → List Write
 processes_writes F G T source =

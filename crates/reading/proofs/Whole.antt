@@ -1,5 +1,6 @@
 -- A log of a store is whole or isn't, by its two tests; and every planned log of a store that isn't refused is.
-use Rattle.std.proofs.Common.{◌≡◌, ℕ, ◌+◌, ◌*◌, ◌<◌, ◌≤◌, Bool, true, false, ltb, List, length, refl, ◌∙◌, arith, le-ltb, lt-ltb, le-leb}
+use Rattle.std.proofs.Common.{◌≡◌, ℕ, ◌+◌, ◌*◌, ◌<◌, ◌≤◌, Bool, true, false, ltb, List, length, refl, ◌∙◌}
+use Rattle.std.proofs.Common.{arith, le-ltb, lt-ltb, le-leb}
 use mathlib.Core.Option.{none}
 use borrow.Author.Tests.{lt-leb}
 use Rattle.model.specs.declared.Topology.{Topology}

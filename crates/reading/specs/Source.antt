@@ -1,5 +1,6 @@
 -- Which form the code's stands for, and what is read of a store.
-use Rattle.std.specs.Prelude.{◌≡◌, ℕ, ◌+◌, ◌*◌, ◌<◌, ◌≤◌, Bool, false, cond, ◌&&◌, ltb, List, [], ◌∷◌, map, length, nat_le, nat_lt}
+use Rattle.std.specs.Prelude.{◌≡◌, ℕ, ◌+◌, ◌*◌, ◌<◌, ◌≤◌, Bool, false, cond, ◌&&◌, ltb}
+use Rattle.std.specs.Prelude.{List, [], ◌∷◌, map, length, nat_le, nat_lt}
 use Rattle.std.proofs.Math.Option.{Option, or_else}
 use Rattle.model.specs.declared.Entry.{Entry}
 use Rattle.model.specs.declared.Receipt.{Receipt}
@@ -7,8 +8,8 @@ use Rattle.model.specs.Check.{◌gives◌, first_refusal}
 use Rattle.model.specs.Topology.{process_limit, channel_limit}
 use Rattle.model.specs.Channel.{messages}
 use Rattle.model.specs.Form as model
-use Rattle.model.specs.Form.{cell, message_places, channel_entry_cells, entries_from, receipt_in, body_in, logged, restore}
-use Rattle.model.specs.Form.{Log, message_log, channel_log, places, entry_cells, count_cell}
+use Rattle.model.specs.Form.{cell, message_places, channel_entry_cells, entries_from, receipt_in, body_in, logged}
+use Rattle.model.specs.Form.{restore, Log, message_log, channel_log, places, entry_cells, count_cell}
 use Rattle.model.specs.Layout.{present}
 use Rattle.model.specs.Recover.{stored_line, restored}
 use Rattle.reading.specs.declared.form.Form.{Form}

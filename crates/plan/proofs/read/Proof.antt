@@ -21,7 +21,11 @@ refused : tie.Need-returns-in-Refuse-check
 unfolding refusal_of plan_refusal or_else plan_in plan_or
 refused c =
     c.refused-in-Refuse-check.ensures
-    ∙ rw (shaped c.before.before.before.before c.lifetimes, ← c.topology-topology.ensures, sym c.check-2.ensures ∙ ap refusal_of c.in-Refuse-check.is)
+    ∙ rw (
+      shaped c.before.before.before.before c.lifetimes,
+      ← c.topology-topology.ensures,
+      sym c.check-2.ensures ∙ ap refusal_of c.in-Refuse-check.is,
+    )
 
 passes : tie.Need-returns-in-Pass
 unfolding refusal_of plan_refusal or_else plan_in plan_or

@@ -2,7 +2,7 @@
 use native.Mathlib.Omega.{arith}
 use mathlib.Core.Path.{◌≡◌, sym, ap, ◌∙◌}
 use mathlib.Core.List.{List, ◌++◌}
-use Prim.Native.Nat.{ℕ}
+use Prim.Native.Nat.{ℕ, ◌<◌}
 use lib.ListN.{length, length-set}
 use Rattle.model.specs.Form.{cell}
 use Rattle.model.specs.Write.{Write, write_all, commit_writes}
@@ -47,10 +47,9 @@ both c =
 still : (c : tie.After-channels) → length c.channels.new.target ≡ length (start c).args.target.now
 still c = ap length (both c) ∙ length_write_all (start c).args.target.now (writes (start c))
 
-slice-write-target : tie.Need-bounds-target-0
-slice-write-target c =
-    let after = c.before.before.before in
-    omega (arith, still after, line_in_store (known (start after)).sized)
+-- so the line cell is in the target
+inside : (c : tie.After-channels) → 0 < length c.channels.new.target
+inside c = omega (arith, still c, line_in_store (known (start c)).sized)
 
 returns : tie.Need-returns
 unfolding carry_writes commit_writes stored_line cell
@@ -62,5 +61,5 @@ pub write_spec : {M : Type 1} → statement M
 write_spec =
     tie.close
     (tie.spec (λ c κs. c.requires) channels-requires
-    (λ c. line_in_store (known (start c.before.before.before)).readable.sized) slice-write-target
+    (λ c. line_in_store (known (start c.before.before.before)).readable.sized) (λ c. inside c.before.before.before)
     (λ c. simp length-set (still c.before.before.before)) returns)

@@ -1,6 +1,7 @@
 -- `log::channel` meets its contract: the tests are those of a whole log. The loop's invariant: the first i bodies are
 -- the log's cells.
-use Rattle.std.proofs.Common.{◌≡◌, ℕ, ◌+◌, ◌-◌, ◌<◌, true, false, List, [], length, get_or, sym, refl, ap, ◌∙◌, arith, length-set, rules, le-ltb, lt-ltb}
+use Rattle.std.proofs.Common.{◌≡◌, ℕ, ◌+◌, ◌-◌, ◌<◌, true, false, List, [], length, get_or, sym, refl, ap, ◌∙◌}
+use Rattle.std.proofs.Common.{arith, length-set, rules, le-ltb, lt-ltb}
 use lib.ListN.{get_or-replicate}
 use Rattle.model.specs.declared.Places.{Places}
 use Rattle.model.specs.declared.Channel.{Channel}
@@ -28,11 +29,8 @@ decreases-loop store channel at n bodies₀ i₀ bodies i = channel_places - i
 
 -- the log that is read, and where
 module _ (q : tie.After-channel_count_cell-at invariant-loop decreases-loop) where
-  abbrev asked : tie.Else-channel-ge-CHANNELS invariant-loop decreases-loop
-  asked = q.before.before
-
   abbrev start : tie.Start invariant-loop decreases-loop
-  start = asked.before.before
+  start = q.before.before.before.before
 
   abbrev F : Form
   F = form_of start.args.form
@@ -50,19 +48,12 @@ module _ (q : tie.After-channel_count_cell-at invariant-loop decreases-loop) whe
   begins = q.channel_count_cell-at.ensures.is ∙ ap (λ (n : ℕ). count_cell F n log) q.line.ensures
 
   possibly : possible log ≡ true
-  possibly = lt-ltb start.args.channel channel_limit (omega (arith, asked.if-channel-ge-CHANNELS.false))
+  possibly = lt-ltb start.args.channel channel_limit (omega arith)
 
 -- nothing is read
 empty_is : (r : Channel) → r ≡ empty_channel → entries r ≡ []
 unfolding entries tabulate
 empty_is r e = rw e refl
-
-returns : tie.Need-returns-then-channel-ge-CHANNELS invariant-loop decreases-loop
-returns c =
-    let a = c.args in
-    empty_is _ c.empty.ensures
-    ∙ rw (none_such (form_of a.form) a.store.now (channel_log a.channel)
-    (le-ltb a.channel channel_limit c.if-channel-ge-CHANNELS.true)) refl
 
 returns-2 : tie.Need-returns-then-store-at invariant-loop decreases-loop
 returns-2 c =
@@ -78,7 +69,8 @@ returns-3 c =
     ∙ rw (over (F q) (st q) (log q) (rw (← (begins q)) c.if-n.true)) refl
 
 -- what a turn came from
-abbrev from : tie.In-loop-i invariant-loop decreases-loop → tie.After-channel_count_cell-at invariant-loop decreases-loop
+abbrev from : tie.In-loop-i invariant-loop decreases-loop
+    → tie.After-channel_count_cell-at invariant-loop decreases-loop
 from c = c.before.before.before.before.before
 
 -- the cell of its body is in the store
@@ -124,7 +116,10 @@ channel_spec =
     invariant-loop
     decreases-loop
     (λ c κs. search rules)
-    returns
+    (λ c.
+    let a = c.args in
+    let none = le-ltb a.channel channel_limit (omega arith) in
+    empty_is _ c.empty.ensures ∙ rw (none_such (form_of a.form) a.store.now (channel_log a.channel) none) refl)
     (λ c κs. search rules) (λ c κs. search rules) (λ c. search rules) (λ c κs. search rules)
     returns-2
     (λ c. search rules) (λ c. omega arith) (λ c. omega arith) (λ c κs. search rules)

@@ -10,11 +10,8 @@ use Rattle.reading.proofs.log.word.Tie as tie
 
 -- the log that is read, and where: its count stands after the physical checkpoint
 module _ (c : tie.After-process_cells) where
-  abbrev asked : tie.Else-process-ge-PROCESSES
-  asked = c.before.before.before
-
   abbrev start : tie.Start
-  start = asked.before.before
+  start = c.before.before.before.before.before
 
   abbrev F : Form
   F = form_of start.args.form
@@ -38,13 +35,7 @@ module _ (c : tie.After-process_cells) where
   counts = ap (λ (n : ℕ). n + 1) (sym begins)
 
   possibly : possible log ≡ true
-  possibly = lt-ltb start.args.process process_limit (omega (arith, asked.if-process-ge-PROCESSES.false))
-
-returns : tie.Need-returns-then-process-ge-PROCESSES
-returns c =
-    let a = c.args in
-    rw (none_such (form_of a.form) a.store.now (message_log a.process)
-    (le-ltb a.process process_limit c.if-process-ge-PROCESSES.true))
+  possibly = lt-ltb start.args.process process_limit (omega arith)
 
 returns-2 : tie.Need-returns-then-store-at
 returns-2 c =
@@ -75,7 +66,10 @@ pub word_spec : {M : Type 1} → statement M
 word_spec =
     tie.close
     (tie.spec
-    returns
+    (λ c.
+    let a = c.args in
+    rw (none_such (form_of a.form) a.store.now (message_log a.process)
+    (le-ltb a.process process_limit (omega arith))))
     (λ c κs. search rules) (λ c κs. search rules) (λ c κs. search rules) (λ c. search rules)
     returns-2
     (λ c. search rules) (λ c. search rules) (λ c. search rules) (λ c. omega arith)

@@ -26,13 +26,15 @@ first c = ap (λ (at : ℕ). at + 1) c.physical_cell-messages.ensures.is
 returns : tie.Need-returns-then-not-at_most
 returns c =
     let tested = rw c.process_cells.ensures.is at c.at_most.ensures in
-    messages_over (sized (start c.before.before.before)) (first c.before.before.before) tested (not-true _ c.if-not-at_most.true-raw)
+    let p = c.before.before.before in
+    messages_over (sized (start p)) (first p) tested (not-true _ c.if-not-at_most.true-raw)
 
 returns-2 : tie.Need-returns
 unfolding stored_line cell
 returns-2 c =
     let tested = rw c.process_cells.ensures.is at c.at_most.ensures in
-    messages_fit (sized (start c.before.before.before.before.before)) (first c.before.before.before.before.before) tested (not-false _ c.if-not-at_most.false-raw)
+    let p = c.before.before.before.before.before in
+    messages_fit (sized (start p)) (first p) tested (not-false _ c.if-not-at_most.false-raw)
     c.channel_count_cell-channels.ensures.is c.at_most-2.ensures
 
 pub counts_fit_spec : {M : Type 1} → statement M

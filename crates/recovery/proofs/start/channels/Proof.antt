@@ -42,8 +42,12 @@ inside t =
 
 loop-holds : tie.Need-loop-c-init invariant-loop decreases-loop
 loop-holds c =
-    let st = c.args.store.now in
-    (omega arith, refl, refl, no_entries (replicate channel_limit c.places-first.result) ∙ filled_none (channel_of st) [])
+    let st = c.args.store.now in (
+      omega arith,
+      refl,
+      refl,
+      no_entries (replicate channel_limit c.places-first.result) ∙ filled_none (channel_of st) [],
+    )
 
 loop-again : tie.Need-loop-c-preserved invariant-loop decreases-loop
 loop-again c =
