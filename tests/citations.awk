@@ -1,5 +1,6 @@
 # Which theorems a document cites (see tests/theorems): the lines of a document, one after the other. `theorem` has the
-# names that are listed, `proved` the files of which one is listed; `cited` gets the names that are cited.
+# names that are listed, `proved` the files of which one is listed, `known` the names that are no theorem's; `cited` gets
+# the names that are cited.
 
 function begin_document() {
     inside = fenced = several = table = 0
@@ -11,11 +12,16 @@ function cite(name) {
     if (!(name in theorem)) complain(FILENAME ":" FNR ": cites " name ", which is not listed")
 }
 
+# A name of several words, as a theorem's is: one that is listed, or one that nothing else has
+function is_theorems(text) {
+    return text ~ /^[a-z0-9]+([-_][a-z0-9]+)+$/ && (text in theorem || !(text in known))
+}
+
 # A text in backquotes, and the text between it and the one before
 function span(text, between) {
     several = between ~ /[Tt]heorems *$/ || (several && between ~ /^(,| and|, and) *$/)
-    if (several || between ~ /[Tt]heorem *$/ || text ~ /^[a-z0-9]+(-[a-z0-9]+)+$/) cite(text)
-    else if (table && column in headed && text ~ /^[a-z0-9]+$/) cite(text)
+    if (several || between ~ /[Tt]heorem *$/ || is_theorems(text)) cite(text)
+    else if (table && column in headed && text ~ /^[a-z0-9_]+$/) cite(text)
     if (FILENAME !~ /^(README|docs\/REPLY)\.md$/ || text !~ /^crates\/[a-z_]+\/proofs\/.*\.antt$/) return
     if (!(text in proved)) complain(FILENAME ":" FNR ": cites " text ", of which no theorem is listed")
 }

@@ -19,14 +19,25 @@ FNR == 1 {
 
 /^pub mod / { published[crate, within(module, name_after("mod"))] = 1 }
 
-/^ *pub use / { passed_on[crate, ++uses[crate]] = used() }
+# A use goes to its semicolon, mostly in one line.
+in_use || /^ *(pub |pub[(][a-z]*[)] )?use / {
+    if (!in_use) begun = FNR
+    in_use = !/;/
+    text = text $0
+    if (in_use) next
+    take_use(text)
+    text = ""
+    next
+}
 
 /^ *(pub |pub[(][a-z]*[)] )?([a-z]+ |"C" )*fn / { begin_head() }
 
-crate == "slow" && !/^ *(\/\/|ghost )/ && names_another() { tell(FILENAME ":" FNR ": the slow engine names " another) }
+crate == "slow" && !/^ *(\/\/|ghost )/ && names_another($0) {
+    tell(FILENAME ":" FNR ": the slow engine names " another)
+}
 
-in_head && /^ *requires / { requires[functions] = clause = 1 }
-in_head && /^ *ensures / { ensures[functions] = clause = 1 }
+in_head && /^ *requires[ *{]/ { requires[functions] = clause = 1 }
+in_head && /^ *ensures[ *{]/ { ensures[functions] = clause = 1 }
 in_head && (/^ *[{]$/ || (!clause && /[{]}?$/)) { in_head = 0 }
 
 END {
@@ -40,8 +51,7 @@ END {
 
 # Whether the line names something of another crate that the slow engine does without: what is left of it without the
 # types of model and the two functions of rules.
-function names_another(    line) {
-    line = $0
+function names_another(line) {
     gsub(/((model|account)::[A-Z][A-Za-z]*|crate::[a-z_:]*)/, "", line)
     gsub(/rules::(topology::check[(]|word::enter;)/, "", line)
     if (!match(line, /(rules|model|account|reading|recovery|engine)(::[a-z_:]*| as )/)) return 0
@@ -59,13 +69,45 @@ function name_after(word,    name) {
     return name
 }
 
-# What a `pub use` names, from the crate's root or from its own module: `pub use crate::field::word as w;` field::word.
-function used(    path) {
-    path = $0
-    sub(/^ *pub use /, "", path)
-    sub(/( as .*)?;.*$/, "", path)
+# Each name that a use brings, alone: `pub use field::{word, byte as b};` brings field::word and field::byte.
+function take_use(line,    marked) {
+    gsub(/[ \t]+/, " ", line)
+    sub(/^ /, "", line)
+    marked = sub(/^pub use /, "", line)
+    sub(/^(pub[(][a-z]*[)] )?use /, "", line)
+    sub(/;.*$/, "", line)
+    each_used(line, marked)
+}
+
+# The first list is taken apart, and then what it gave.
+function each_used(path, marked,    before, inner, depth, i, c, item) {
+    if (!match(path, /[{]/)) {
+        use(path, marked)
+        return
+    }
+    before = substr(path, 1, RSTART - 1)
+    inner = substr(path, RSTART + 1)
+    depth = 1
+    for (i = 1; i <= length(inner) && depth; i++) {
+        c = substr(inner, i, 1)
+        if (c == "{") depth++
+        if (c == "}") depth--
+        if ((c == "," && depth == 1) || !depth) {
+            gsub(/^ | $/, "", item)
+            if (item == "self") each_used(substr(before, 1, length(before) - 2), marked)
+            else if (item != "") each_used(before item, marked)
+            item = ""
+        } else item = item c
+    }
+}
+
+# What a use names, from the crate's root or from its own module: `crate::field::word as w` field::word.
+function use(path, marked) {
+    if (crate == "slow" && names_another("use " path ";")) tell(FILENAME ":" begun ": the slow engine names " another)
+    if (!marked) return
+    sub(/ as .*$/, "", path)
     while (sub(/^(crate|self|super)::/, "", path)) continue
-    return path
+    passed_on[crate, ++uses[crate]] = path
 }
 
 # A function's head goes from its name to the brace that opens its body.

@@ -41,6 +41,7 @@ function look(word) {
     sub(/^\(?(\.\/)?/, "", word)
     sub(/\/?[.,;:)]*$/, "", word)
     if (word !~ /^[A-Za-z0-9_.+*\/-]+$/ || word ~ /^(target|\.\.)?\//) return
+    if (word ~ /^crates\/[A-Za-z0-9_*]+\/out(\/|$)/) return
     while (match(word, /\/(CRATE|NAME)(\/|\.|$)/)) sub(/\/(CRATE|NAME)/, "/*", word)
     if (word ~ /^(crates|tests|docs|bench|examples|\.ci)\//) {
         if (!there(word)) complain(FILENAME ":" FNR ": " word " is not there")

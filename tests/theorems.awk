@@ -1,5 +1,5 @@
-# Reads the lists and then, with citations.awk, the documents (see tests/theorems), and each source that a list names,
-# in the layout of rt fmt.
+# Reads the names that are no theorem's, the lists and then, with citations.awk, the documents (see tests/theorems), and
+# each source that a list names, in the layout of rt fmt.
 
 # Each complaint once.
 function complain(text) {
@@ -29,8 +29,16 @@ function indent(line) {
 
 # An operator without the marks for its arguments' places, as it stands between them.
 function plain(name) {
-    gsub(/_/, "", name)
+    gsub(/◌/, "", name)
     return name
+}
+
+# A name without the fields that are taken of it: store of store.count, and records.Call as it is, whose records is a
+# module's name in the file.
+function whose(file, word,    own) {
+    own = word
+    sub(/\..*$/, "", own)
+    return ((file, own) in from) && !((file, own) in called) ? word : own
 }
 
 # A declaration's text without the parameters around it
@@ -53,10 +61,11 @@ function name_of(text) {
 
 # ---- sources
 
-# The file of a module: Rattle·model·specs.specs.Run, or Rattle·model.specs.Run from another crate.
+# The file of a module: Rattle.model.specs.Run, in its own crate and in others. What is not below specs or proofs of a
+# crate, and what is std's, comes from a library.
 function file_of(path) {
-    if (!sub(/^Rattle·/, "", path)) return ""
-    sub(/·(specs|proofs)\./, ".", path)
+    if (path !~ /^Rattle\.[a-z0-9_]+\.(specs|proofs)\./ || path ~ /^Rattle\.std\./) return ""
+    sub(/^Rattle\./, "", path)
     gsub(/\./, "/", path)
     return "crates/" path ".antt"
 }
@@ -173,7 +182,9 @@ function unlisted(file, word) {
 # it, what is of proofs/; and none comes under another name than its own.
 function origin(file, name, word, place,    path, own) {
     sub(/\.$/, "", word)
-    if (word == "" || word ~ /^\./ || plain(word) == name) return
+    if (word ~ /^\./) return
+    word = whose(file, word)
+    if (word == "" || plain(word) == name) return
     if ((file, plain(word)) in stated) {
         if (unlisted(file, word)) complain(place ": " name " names " word " of its own file, which is not listed")
         return
@@ -217,9 +228,15 @@ function hold(file, name,    place) {
 }
 
 FNR == 1 {
+    files++
     enter()
     source = ""
     begin_document()
+}
+
+files == 1 {
+    known[$1]
+    next
 }
 
 FILENAME ~ /^tests\/stated\// {

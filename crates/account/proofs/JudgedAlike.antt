@@ -33,7 +33,6 @@ use Rattle.model.specs.Step.{may_checkpoint_physically, may_checkpoint_logically
 use Rattle.model.specs.Step.{reaction, first_reaction, marker_on_closed, prior_checks, room_checks, log_checks, own_checks}
 use Rattle.model.specs.Step.{quietly, next_line, received_outcome, receive, effect, result_of}
 use Rattle.model.specs.Outcome.{sent}
-use Rattle.model.specs.Run.{Call}
 use Rattle.model.proofs.laws.Tests.{or_false, Tested, holds, fails, test}
 use Rattle.model.proofs.laws.Lists.{tabulate_length}
 use Rattle.account.specs.declared.NeededLogs.{NeededLogs}

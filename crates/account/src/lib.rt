@@ -1,4 +1,5 @@
 // The types of the second account of document 01 (document 02, M-106), which is in specs/: no code is here.
+#![tactic(auto)]
 
 // What a call did, by its answer: its kind, 1 to 9, or 0 where it was not accepted; its process and channel; the body
 // sent or received; whether a marker was received; how many writes it made.

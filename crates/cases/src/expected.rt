@@ -1,7 +1,7 @@
 // What the papers say is answered, whether a step is answered so, and what is told of a case.
 use crate::hand::{RUBBISH, STORE_CELLS};
-use libc::STDOUT_FILENO;
 use model::{FULL_BUDGET, Outcome, State, Step};
+use std::io;
 
 // An answer as a line of document 01's listing has it: a word, by its first letter, the number after it (0 where there
 // is none), and the writes made.
@@ -153,12 +153,8 @@ pub fn gives_short(state: State, step: Step, expected: Told) -> bool {
     gives_on(&mut store, state, step, expected)
 }
 
-pub fn tell(case: &[u8], ok: bool) {
-    if ok {
-        io::write_all(STDOUT_FILENO, b"ok ");
-    } else {
-        io::write_all(STDOUT_FILENO, b"FAILED ");
-    }
-    io::write_all(STDOUT_FILENO, case);
-    io::write_all(STDOUT_FILENO, b"\n");
+// Prints a case's line; the error is a write's that failed.
+pub fn tell(rt: &impl Print, case: &str, ok: bool) -> io::Result<()> {
+    let word = if ok { "ok" } else { "FAILED" };
+    println!(rt; "{word} {case}")
 }

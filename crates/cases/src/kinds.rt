@@ -3,6 +3,7 @@ use crate::expected::{Told, done, gives, refused, same, sent, tell, took};
 use crate::hand::{BODY, idle, in_phase, with_all_set, with_messages};
 use model::{Phase, State};
 use record::StepRead;
+use std::io;
 
 // With process 0, channel 1 and the body, whichever of them the kind uses: no record can have all three.
 fn kind_gives(state: State, kind: u8, expected: Told) -> bool {
@@ -12,7 +13,7 @@ fn kind_gives(state: State, kind: u8, expected: Told) -> bool {
     }
 }
 
-pub fn steps() {
+pub fn steps(rt: &impl Print) -> io::Result<()> {
     let physical = in_phase(idle(), Phase::Physical(0));
     let logical = in_phase(idle(), Phase::Logical);
     let ready = with_all_set(logical);
@@ -28,7 +29,8 @@ pub fn steps() {
         && kind_gives(idle(), 9, refused(7))
         && kind_gives(idle(), 255, refused(7));
     tell(
-        b"A step is a kind with only the fields it uses: 1 to 8. 0, 9 and 255 are none: 7.",
+        rt,
+        "A step is a kind with only the fields it uses: 1 to 8. 0, 9 and 255 are none: 7.",
         ok,
-    );
+    )
 }

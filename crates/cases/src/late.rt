@@ -9,6 +9,7 @@ use crate::hand::{
 };
 use crate::starts::undone;
 use model::{Phase, State, Step};
+use std::io;
 
 fn receive() -> Step {
     Step::Receive { channel: 0 }
@@ -23,7 +24,7 @@ fn unmarked() -> State {
     in_phase(idle_late(), Phase::Logical)
 }
 
-pub fn copies() {
+pub fn copies(rt: &impl Print) -> io::Result<()> {
     let copy = Step::PhysicalCheckpoint { process: 1 };
     let early = Step::PhysicalCheckpoint { process: 0 };
     let before = with_logical(in_phase(idle_late(), Phase::Physical(0)), 1);
@@ -34,36 +35,39 @@ pub fn copies() {
         && gives(before, copy, refused(12))
         && gives(marked(), early, refused(12));
     tell(
-        b"12: a late board copies once marked, one time in a round, and not in copying, marked or not.",
+        rt,
+        "12: a late board copies once marked, one time in a round, and not in copying, marked or not.",
         ok,
-    );
+    )
 }
 
 // No run makes a process that has its logical checkpoint outside the logical phase; the papers don't say that it is
 // unsound. Here process 0 is late, and in the physical phase the next one is process 1.
-pub fn outside_marking() {
+pub fn outside_marking(rt: &impl Print) -> io::Result<()> {
     let first_late = with_topology(idle(), with_late(pair(), 1));
     let idle = with_messages(with_logical(first_late, 0), 1, 1);
     let copying = in_phase(idle, Phase::Physical(1));
     let receive = Step::Receive { channel: 1 };
     let ok = gives(idle, receive, took(BODY)) && gives(copying, receive, took(BODY));
     tell(
-        b"Outside marking a late board logs nothing, though it be marked.",
+        rt,
+        "Outside marking a late board logs nothing, though it be marked.",
         ok,
-    );
+    )
 }
 
 // Nor one that is saved and has no logical checkpoint.
-pub fn saved_unmarked() {
+pub fn saved_unmarked(rt: &impl Print) -> io::Result<()> {
     let saved = with_saved(unmarked(), 1);
     let ok = gives(with_messages(saved, 0, 1), receive(), took(BODY))
         && gives(with_other_tag(saved, 0), receive(), took(BODY))
         && gives(with_messages(unmarked(), 0, 1), receive(), took(BODY))
         && gives(with_other_tag(unmarked(), 0), receive(), logged(BODY, 3));
     tell(
-        b"A late board copied and not marked is sound, and logs nothing, nor by the take that marks it.",
+        rt,
+        "A late board copied and not marked is sound, and logs nothing, nor by the take that marks it.",
         ok,
-    );
+    )
 }
 
 // So many entries in the logs that a message of another tag needs.
@@ -72,7 +76,7 @@ fn with_logs(channel: u8, messages: u8) -> State {
     with_other_tag(counted, 0)
 }
 
-pub fn anti_messages() {
+pub fn anti_messages(rt: &impl Print) -> io::Result<()> {
     let last = with_message_log(with_messages(marked(), 0, 1), 1, 63);
     let full = with_message_log(last, 1, 64);
     let ok = gives(last, receive(), logged(BODY, 3))
@@ -82,9 +86,10 @@ pub fn anti_messages() {
         && gives(with_logs(7, 64), receive(), refused(11))
         && gives(with_logs(8, 63), receive(), refused(11));
     tell(
-        b"The 64th anti-message passes, the 65th is 11; and either log full, where two are needed.",
+        rt,
+        "The 64th anti-message passes, the 65th is 11; and either log full, where two are needed.",
         ok,
-    );
+    )
 }
 
 // Whether a write was made just if it had to be; then the cell is as at first again.
@@ -130,7 +135,7 @@ fn written(budget: u32, expected: Told, again: Told) -> bool {
 }
 
 // Cut, the same receive follows and is done; done, the channel is empty.
-pub fn two_logs() {
+pub fn two_logs(rt: &impl Print) -> io::Result<()> {
     let ok = written(0, cut(0), logged(BODY, 5))
         && written(1, cut(1), logged(BODY, 5))
         && written(2, cut(2), logged(BODY, 5))
@@ -138,16 +143,17 @@ pub fn two_logs() {
         && written(4, cut(4), logged(BODY, 5))
         && written(5, logged(BODY, 5), refused(10));
     tell(
-        b"An anti-message comes after any wire log entry: 5 stores, in order, cut after each.",
+        rt,
+        "An anti-message comes after any wire log entry: 5 stores, in order, cut after each.",
         ok,
-    );
+    )
 }
 
 // What M-101 makes of word 0: 4,841 by channel 0 and then 1, 34,601 by the other order, and, by hand, 961 × 5 - 31 + 5
 // by channel 0 and then the last number of 32 bits.
-pub fn undoing() {
+pub fn undoing(rt: &impl Print) -> io::Result<()> {
     let ok = undone(4841, 0, 1) == 0
         && undone(34601, 1, 0) == 0
         && undone(4779, 0, 4294967295) == 0;
-    tell(b"Restart undoes these in reverse order on the copy.", ok);
+    tell(rt, "Restart undoes these in reverse order on the copy.", ok)
 }

@@ -27,9 +27,10 @@ use crate::starts::{
     starts_short,
 };
 use model::{Phase, State, Step};
+use std::io;
 
 // One process: a recover at the last line but one, a whole round, and a begin after it, also after another recover.
-fn last_line() {
+fn last_line(rt: &impl Print) -> io::Result<()> {
     let physical = Step::PhysicalCheckpoint { process: 0 };
     let logical = Step::LogicalCheckpoint { process: 0 };
     let alone = sized(1, 0);
@@ -53,11 +54,11 @@ fn last_line() {
         && answered(new, line(LAST_LINE))
         && gives(last, Step::Begin, refused(13))
         && gives(again, Step::Begin, refused(13));
-    tell(b"k = 4,294,967,294 begins; one more is 13.", ok);
+    tell(rt, "k = 4,294,967,294 begins; one more is 13.", ok)
 }
 
 // Channel 9 is not in the topology (8), and a physical checkpoint doesn't come in idle (12).
-fn short_store() {
+fn short_store(rt: &impl Print) -> io::Result<()> {
     let good = one_channel(0, 1);
     let sound = with_topology(idle(), good);
     let nine = with_messages(idle(), 1, 9);
@@ -76,20 +77,22 @@ fn short_store() {
         && gives_short(nine, Step::Begin, refused(15))
         && gives(sound, Step::Begin, done(3));
     tell(
-        b"6 store under 5,313 cells: after 1 to 5, 19 and 15, before 8 and 12.",
+        rt,
+        "6 store under 5,313 cells: after 1 to 5, 19 and 15, before 8 and 12.",
         ok,
-    );
+    )
 }
 
-fn marker_on_closed() {
+fn marker_on_closed(rt: &impl Print) -> io::Result<()> {
     let receive = Step::Receive { channel: 0 };
     let open = with_marker(in_phase(idle(), Phase::Logical), 0);
     let closed = with_closed(open, 0);
     let ok = gives(open, receive, note()) && gives(closed, receive, refused(14));
     tell(
-        b"14 in marking, a note taken on a closed wire. On an open one: note.",
+        rt,
+        "14 in marking, a note taken on a closed wire. On an open one: note.",
         ok,
-    );
+    )
 }
 
 // Channel 0 is empty then and open, and its receiver has no logical checkpoint: its tag isn't turned over.
@@ -118,17 +121,18 @@ fn outside_logical(phase: Phase, next: Step, expected: Told) -> bool {
         && gives(noted, next, expected)
 }
 
-fn take_outside_logical() {
+fn take_outside_logical(rt: &impl Print) -> io::Result<()> {
     let physical = Step::PhysicalCheckpoint { process: 0 };
     let ok = outside_logical(Phase::Idle, Step::Begin, done(4))
         && outside_logical(Phase::Physical(0), physical, done(1));
     tell(
-        b"Take, outside marking: tags aren't looked at and a note is merely removed.",
+        rt,
+        "Take, outside marking: tags aren't looked at and a note is merely removed.",
         ok,
-    );
+    )
 }
 
-fn room() {
+fn room(rt: &impl Print) -> io::Result<()> {
     let five = with_messages(idle(), 1, 5);
     let ok = gives(idle(), send(1), sent(7))
         && gives(five, send(1), sent(2))
@@ -136,81 +140,86 @@ fn room() {
         && gives(with_messages(idle(), 1, 7), send(1), sent(0))
         && gives(with_messages(idle(), 1, 8), send(1), refused(9));
     tell(
-        b"A send answers how many entries the wire can still hold afterwards.",
+        rt,
+        "A send answers how many entries the wire can still hold afterwards.",
         ok,
-    );
+    )
 }
 
-fn room_beside_marker() {
+fn room_beside_marker(rt: &impl Print) -> io::Result<()> {
     let marked = with_marker(in_phase(idle(), Phase::Logical), 0);
     let ok = gives(marked, send(0), sent(6)) && gives(marked, send(1), sent(7));
     tell(
-        b"An entry is a message or a note: a send beside a note leaves 6.",
+        rt,
+        "An entry is a message or a note: a send beside a note leaves 6.",
         ok,
-    );
+    )
 }
 
-fn stored_counts() {
+fn stored_counts(rt: &impl Print) -> io::Result<()> {
     let ok = recovers_with(COUNT_OF_PROCESS_1, 64, line(0))
         && recovers_with(COUNT_OF_PROCESS_1, 65, refused(16))
         && recovers_with(COUNT_OF_CHANNEL_1, 8, line(0))
         && recovers_with(COUNT_OF_CHANNEL_1, 9, refused(16));
     tell(
-        b"16 (restart) a planned count in half k mod 2 is over 64 or 8. 64 and 8 pass.",
+        rt,
+        "16 (restart) a planned count in half k mod 2 is over 64 or 8. 64 and 8 pass.",
         ok,
-    );
+    )
 }
 
 // Process 2 is not in the topology. The slot for line 1 is rubbish: it passes at line 0, and is 16 at line 1.
-fn other_counts() {
+fn other_counts(rt: &impl Print) -> io::Result<()> {
     let ok = recovers_with(COUNT_OF_PROCESS_2, RUBBISH, line(0))
         && recovers_with(LINE_CELL, 1, refused(16));
     tell(
-        b"16 is for no count past the plan, and for none in the other half.",
+        rt,
+        "16 is for no count past the plan, and for none in the other half.",
         ok,
-    );
+    )
 }
 
 // M-101 makes 31 × channel + body of word 0, modulo 2^32; with body 5 that is, by hand, for channels 0, 1, 255, 256 and
 // the last number of 32 bits, what stands here. Refusal 16 looks at counts alone, not at the channel.
-fn logged_channels() {
+fn logged_channels(rt: &impl Print) -> io::Result<()> {
     let ok = replayed(0) == 5
         && replayed(1) == 36
         && replayed(255) == 7910
         && replayed(256) == 7941
         && replayed(4294967295) == 4294967270;
     tell(
-        b"A restart enters a logged wire of any 32 bits as it stands.",
+        rt,
+        "A restart enters a logged wire of any 32 bits as it stands.",
         ok,
-    );
+    )
 }
 
-fn main() {
-    last_line();
-    unsound::topologies();
-    unsound::late_bit();
-    short_store();
-    marker_on_closed();
-    take_outside_logical();
-    room();
-    room_beside_marker();
-    unsound::channel();
-    unsound::message_log();
-    unsound::channel_log();
-    unsound::next_process();
-    unsound::late_next();
-    unsound::round();
-    unsound::before_others();
-    stored_counts();
-    other_counts();
-    logged_channels();
-    kinds::steps();
-    products::unknown_late();
-    products::slow_engine();
-    late::copies();
-    late::outside_marking();
-    late::saved_unmarked();
-    late::anti_messages();
-    late::two_logs();
-    late::undoing();
+fn main(rt: HostRuntime) -> io::Result<()> {
+    last_line(&rt)?;
+    unsound::topologies(&rt)?;
+    unsound::late_bit(&rt)?;
+    short_store(&rt)?;
+    marker_on_closed(&rt)?;
+    take_outside_logical(&rt)?;
+    room(&rt)?;
+    room_beside_marker(&rt)?;
+    unsound::channel(&rt)?;
+    unsound::message_log(&rt)?;
+    unsound::channel_log(&rt)?;
+    unsound::next_process(&rt)?;
+    unsound::late_next(&rt)?;
+    unsound::round(&rt)?;
+    unsound::before_others(&rt)?;
+    stored_counts(&rt)?;
+    other_counts(&rt)?;
+    logged_channels(&rt)?;
+    kinds::steps(&rt)?;
+    products::unknown_late(&rt)?;
+    products::slow_engine(&rt)?;
+    late::copies(&rt)?;
+    late::outside_marking(&rt)?;
+    late::saved_unmarked(&rt)?;
+    late::anti_messages(&rt)?;
+    late::two_logs(&rt)?;
+    late::undoing(&rt)
 }

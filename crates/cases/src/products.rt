@@ -3,6 +3,7 @@ use crate::expected::{tell, untouched};
 use crate::hand::{RUBBISH, STORE_CELLS, pair, sized, two_channels, with_late};
 use model::{CallList, LISTED, Listed, Record, Topology, Verdict};
 use reduction::Finding;
+use std::io;
 
 // The cells of a store of the old form.
 const OLD_STORE_CELLS: usize = 3265;
@@ -44,7 +45,7 @@ fn ways_give(topology: Topology, number: u8) -> bool {
 
 // Bit 2 is the first that the pair doesn't have; channel 1 is doubled (5); a list of 257 calls is too long (18); none
 // of these calls is refused (17).
-pub fn unknown_late() {
+pub fn unknown_late(rt: &impl Print) -> io::Result<()> {
     let unknown = with_late(pair(), 4);
     let doubled = with_late(two_channels(0, 1, 0, 1), 4);
     let ok = list_gives(unknown, 0, 19)
@@ -55,9 +56,10 @@ pub fn unknown_late() {
         && ways_give(doubled, 5)
         && ways_give(pair(), 6);
     tell(
-        b"19 after 5: in M-100's checks, and in M-102's before 6.",
+        rt,
+        "19 after 5: in M-100's checks, and in M-102's before 6.",
         ok,
-    );
+    )
 }
 
 // Refused with this number, 0 where it isn't refused; and so many calls are answered.
@@ -72,7 +74,7 @@ fn slowly_gives(topology: Topology, count: u16, number: u8, answered: u16) -> bo
 }
 
 // The programs read a plan before its list, so that they can't show which refusal comes first.
-pub fn slow_engine() {
+pub fn slow_engine(rt: &impl Print) -> io::Result<()> {
     let doubled = with_late(two_channels(0, 1, 0, 1), 4);
     let unknown = with_late(pair(), 4);
     let ok = slowly_gives(sized(17, 0), 257, 18, 0)
@@ -83,7 +85,8 @@ pub fn slow_engine() {
         && slowly_gives(pair(), 0, 0, 0)
         && slowly_gives(with_late(pair(), 2), 256, 0, 256);
     tell(
-        b"18 before 1 to 5 and 19: in M-106's checks; 256 restarts are answered.",
+        rt,
+        "18 before 1 to 5 and 19: in M-106's checks; 256 restarts are answered.",
         ok,
-    );
+    )
 }

@@ -1,10 +1,27 @@
 // The operator's program `console`: the first byte of standard input and 65,536 more, and what is printed for them.
-use libc::{STDIN_FILENO, STDOUT_FILENO};
+#![tactic(auto)]
 
-fn main() {
+ghost use Rattle.std.specs.Prelude.{OnOk};
+ghost use Rattle.console.specs.Answer.{IsAnswer};
+ghost use Rattle.operator.specs.Console.{bytes_taken};
+ghost use Rattle.stream.specs.Answer.{Takes, Prints};
+
+use std::io;
+use std::io::{Read, Write};
+
+// What is taken of a reader, and printed to a writer.
+fn answer<R: Read, W: Write>(reader: &mut R, writer: &mut W) -> io::Result<()>
+    ensures taken { OnOk result (Takes bytes_taken (R.remaining reader.old) (R.remaining reader.new)) }
+    ensures printed { OnOk result (Prints bytes_taken IsAnswer (R.remaining reader.old)
+        (W.contents writer.old) (W.contents writer.new)) }
+{
     let mut input = operator::input_buffer();
-    let n = io::read_full(STDIN_FILENO, &mut input);
+    let n = stream::read_full(reader, &mut input)?;
     let mut out = operator::buffer();
     let end = operator::console(&input[..n], &mut out);
-    io::write_all(STDOUT_FILENO, &out[..end]);
+    writer.write_all(&out[..end])
+}
+
+fn main(rt: HostRuntime) -> io::Result<()> {
+    answer(&mut rt.stdin(), &mut rt.stdout())
 }

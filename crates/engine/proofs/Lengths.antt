@@ -7,7 +7,6 @@ use denote.Struct.Declared.{row}
 use Rattle.model.specs.declared.State.{State}
 use Rattle.model.specs.Topology.{process_limit, channel_limit}
 use Rattle.model.specs.contracts.State.{the_type}
-use Rattle.model.proofs.laws.Functions.{length_of}
 
 pub record Lengths (s : State) : Type 0 where
   pub words : length s.words ≡ process_limit
@@ -26,14 +25,14 @@ lengths s v g =
     let flags = g.1.1.1.1.1.1.1.1.0 in
     let counts = g.1.1.1.1.1.1.1.1.1.0 in
     record {
-      words = length_of _ s.words process_limit g.1.1.1.1.0.1.0.1;
-      tags = length_of _ s.tags process_limit g.1.1.1.1.1.0.1.0.1;
-      places = length_of _ s.places channel_limit g.1.1.1.1.1.1.0.1.0.1;
-      lengths = length_of _ s.lengths channel_limit g.1.1.1.1.1.1.1.0.1.0.1;
-      logical = length_of _ s.flags.logical process_limit flags.1.1.0.1.0.1;
-      saved = length_of _ s.flags.saved process_limit flags.1.1.1.0.1.0.1;
-      closed = length_of _ s.flags.closed channel_limit flags.1.1.1.1.0.1.0.1;
-      sent = length_of _ s.flags.sent channel_limit flags.1.1.1.1.1.0.1.0.1;
-      in_messages = length_of _ s.counts.messages process_limit counts.1.1.0.1.0.1;
-      in_channels = length_of _ s.counts.channels channel_limit counts.1.1.1.0.1.0.1;
+      words = g.1.1.1.1.0.1.0.1;
+      tags = g.1.1.1.1.1.0.1.0.1;
+      places = g.1.1.1.1.1.1.0.1.0.1;
+      lengths = g.1.1.1.1.1.1.1.0.1.0.1;
+      logical = flags.1.1.0.1.0.1;
+      saved = flags.1.1.1.0.1.0.1;
+      closed = flags.1.1.1.1.0.1.0.1;
+      sent = flags.1.1.1.1.1.0.1.0.1;
+      in_messages = counts.1.1.0.1.0.1;
+      in_channels = counts.1.1.1.0.1.0.1;
     }

@@ -5,7 +5,7 @@ use mathlib.Core.Bool.{beq}
 use mir.Val.{bool_byte}
 use Rattle.model.specs.declared.Receipt.{Receipt}
 use Rattle.model.specs.Notation.{upd}
-use Rattle.model.specs.Layout.{store_cells, slot, Log, message_log, channel_log}
+use Rattle.model.specs.Layout.{store_cells, Log, message_log, channel_log}
 use Rattle.model.specs.Layout.{message_places, channel_places, message_entry_cells, channel_entry_cells, count_cell}
 use Rattle.model.specs.Layout.{entry_cell, entry_for}
 use Rattle.model.specs.State.{LogCounts, raised, raised_all}

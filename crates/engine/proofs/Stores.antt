@@ -1,5 +1,5 @@
 -- Laws of writes under a budget: lists of writes one after the other spend what is left, and a store keeps its length.
-use Rattle.std.proofs.Common.{◌≡◌, ℕ, zero, suc, ◌+◌, ◌-◌, ◌<◌, ◌≤◌, List, [], ◌∷◌, ◌++◌, length, take, sym, refl, ap, ◌∙◌, arith, length-append, take_all}
+use Rattle.std.proofs.Common.{◌≡◌, ℕ, zero, suc, ◌-◌, ◌<◌, ◌≤◌, List, [], ◌∷◌, ◌++◌, length, take, sym, refl, ap, ◌∙◌, arith, length-append, take_all}
 use native.Mathlib.Numerals.{unary_clauses}
 use lib.Seq.{take-nil}
 use Rattle.model.specs.Write.{Write, write, write_all}

@@ -1,4 +1,6 @@
 // Document 02, M-102: a store carried from the old form to the present one, and back. The source is only read.
+#![tactic(auto)]
+
 mod destination;
 
 ghost use Rattle.model.specs.Layout.{present};

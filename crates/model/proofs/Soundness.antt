@@ -20,7 +20,7 @@ use Rattle.model.specs.Notation.{all_below}
 use Rattle.model.specs.Topology.{has_process, has_channel, is_late, topology_refusal}
 use Rattle.model.specs.Channel.{room_left, messages, no_room_for_message, no_room_for_marker}
 use Rattle.model.specs.Phase.{is_idle, is_next}
-use Rattle.model.specs.Layout.{present, Log, message_log, channel_log, places, logged, entries_from}
+use Rattle.model.specs.Layout.{present, Log, message_log, channel_log, places, entries_from}
 use Rattle.model.specs.State.{GlobalState, LogCounts, count_of, raised, raised_all, idle_state, no_counts}
 use Rattle.model.specs.Sound.{ChannelRule, channel_sound, channel_sound_by, phase_sound, line_sound, last_line, sound}
 use Rattle.model.specs.Soundness.{Soundness}

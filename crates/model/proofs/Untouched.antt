@@ -18,7 +18,7 @@ use Rattle.model.specs.declared.Step.TheVariants.{LogicalCheckpoint, SendMarker,
 use Rattle.model.specs.Notation.{concat_below, tabulate}
 use Rattle.model.specs.Topology.{receiver, topology_refusal}
 use Rattle.model.specs.Channel.{receipt_of}
-use Rattle.model.specs.Layout.{present, store_cells, cell, slot, physical_cell, Log, message_log, channel_log, places}
+use Rattle.model.specs.Layout.{present, store_cells, cell, physical_cell, Log, message_log, channel_log, places}
 use Rattle.model.specs.Layout.{count_cell}
 use Rattle.model.specs.State.{GlobalState, LogCounts, count_of}
 use Rattle.model.specs.Write.{Write, write_all, under_budget, clear_writes, physical_writes, log_writes, logs_writes}

@@ -1,5 +1,5 @@
 -- Cases of document 02's M-105, late boards: rows of the one table (Cases).
-use Rattle.std.specs.Prelude.{◌+◌, ◌*◌, ◌%◌, List, [], ◌∷◌, ◌++◌, map, drop}
+use Rattle.std.specs.Prelude.{◌+◌, ◌*◌, ◌%◌, List, [], ◌∷◌, ◌++◌, drop}
 use Rattle.model.specs.declared.Phase.TheVariants.{Physical}
 use Rattle.model.specs.declared.Step.TheVariants.{Receive, Begin, PhysicalCheckpoint, Abort}
 use Rattle.model.specs.Notation.{concat_below}
@@ -9,7 +9,7 @@ use Rattle.model.specs.Program as program
 use Rattle.model.specs.CaseInputs.{late_round, late_copy}
 use Rattle.model.specs.CaseInputs.{late_wires, all_late, unknown_late}
 use Rattle.model.specs.CaseLines.{Case}
-use Rattle.model.specs.CaseLines.{done, sent, took, note, line, refused, board, wire, power_lost, message, printed}
+use Rattle.model.specs.CaseLines.{done, sent, took, note, line, refused, board, wire, power_lost, printed}
 use Rattle.model.specs.CaseLines.{steps_of, after_steps, answer_in, in_state, under_plan, answer_line, calling}
 use Rattle.model.specs.CaseLines.{then_serves}
 

@@ -1,5 +1,6 @@
 // The types that every crate here shares. Their meaning is in specs/: State.antt sees a State as an abstract
 // global state, and everything else is said of that.
+#![tactic(auto)]
 
 // Document 01: "a plan has 1 to 16" boards, "0 to 64" wires, and a wire "holds at most 8 entries": so long are the
 // arrays, and a channel's entries have a place each.

@@ -1,5 +1,7 @@
 // The work of the programs `console` and `converter`: one function from the input's bytes to the output's bytes each.
 // The first byte says what is asked, and the first 65,536 bytes after it are what it is asked of.
+#![tactic(auto)]
+
 mod carry;
 mod cells;
 mod list;

@@ -1,5 +1,7 @@
 // The plan that an input begins with: which of the input's bytes are taken, the plan read and checked, and the bytes
 // after it. Equal to the definitions of model's specs/Program.antt.
+#![tactic(auto)]
+
 ghost use Rattle.std.specs.Prelude.{◌≡◌, ◌≤◌, take, drop};
 ghost use Rattle.std.proofs.Math.Option.{none};
 ghost use Rattle.model.specs.Notation.{tabulate};

@@ -12,7 +12,7 @@ use Rattle.model.proofs.laws.Tests.{and_both, and_false}
 use Rattle.model.proofs.laws.TopologyLaws.{Planned}
 use Rattle.model.proofs.store.Sizes.{Sized}
 use Rattle.model.proofs.store.Addresses.{in_store, log_within}
-use Rattle.model.proofs.store.Readable.{Readable, readable}
+use Rattle.model.proofs.store.Readable.{readable}
 use Rattle.reading.specs.Source.{possible, whole, word_read, channel_read}
 
 -- the cell of its count, and that of its last place

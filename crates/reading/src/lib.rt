@@ -1,5 +1,7 @@
 // A store, any whatever, read by the rules of its form: where things stand in it, what turns a restart of it down, and
 // what it holds.
+#![tactic(auto)]
+
 pub mod form;
 mod log;
 mod refusals;

@@ -9,7 +9,7 @@ use borrow.Author.Tests.{ne_eqb}
 use native.Mathlib.Omega.{arith}
 use native.Mathlib.Nat.{eq-or-lt_of_le}
 use Rattle.model.specs.declared.Record.{Record}
-use Rattle.model.specs.declared.Record.TheVariants.{Call, Recover}
+use Rattle.model.specs.declared.Record.TheVariants.{Call}
 use Rattle.model.specs.declared.Step.{Step}
 use Rattle.model.specs.Record.{Fields, absent, provided, record_of, with_rest}
 use Rattle.model.proofs.laws.Tests.{true_is_not_false}

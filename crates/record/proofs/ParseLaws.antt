@@ -92,7 +92,8 @@ module _ (m kind : ℕ) {bytes : List ℕ} {r₁ : Field} (h₁ : Reads read_byt
     unfolding fields_after
     no_channel q = value_then h₁ _ q₁ ∙ broken_then h₂ _ q
 
-    module _ {c b : ℕ} {r₃ : Field} (q₂ : r₂ ≡ Value c b) (h₃ : Reads read_body (stands 8 m) bytes b 4294967296 r₃) where
+    module _ {c b : ℕ} {r₃ : Field} (q₂ : r₂ ≡ Value c b)
+        (h₃ : Reads read_body (stands 8 m) bytes b 4294967296 r₃) where
       pub no_body : r₃ ≡ Broken → fields_after m kind (drop 2 bytes) ≡ none
       unfolding fields_after
       no_body q = value_then h₁ _ q₁ ∙ (value_then h₂ _ q₂ ∙ broken_then h₃ _ q)

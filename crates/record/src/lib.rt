@@ -1,4 +1,6 @@
 // Records: the reader and the writer, each equal to the definitions of model's specs/Record.antt.
+#![tactic(auto)]
+
 mod field;
 mod kind;
 mod pack;

@@ -1,5 +1,7 @@
 // The part of a list of calls that matters (document 02, M-100). The field's terms: delta debugging, and a 1-minimal
 // part that still fails.
+#![tactic(auto)]
+
 mod part;
 mod replay;
 mod shrink;

@@ -25,7 +25,8 @@ use Rattle.report.proofs.Appending.{at_most}
 
 -- the lines of the list that f makes, by their index
 lines_of : {A : Type 0} (n : ℕ) (f : ℕ → A) (d : A) (text : ℕ → A → List ℕ)
-    → concat_below (length (tabulate n f)) (λ i. text i (get_or (tabulate n f) i d)) ≡ concat_below n (λ i. text i (f i))
+    → concat_below (length (tabulate n f)) (λ i. text i (get_or (tabulate n f) i d))
+    ≡ concat_below n (λ i. text i (f i))
 lines_of n f d text =
     ap (λ (k : ℕ). concat_below k (λ i. text i (get_or (tabulate n f) i d))) (tabulate_length n f)
     ∙ concat_cong n _ _ (λ i l. ap (text i) (tabulate_at n f i d l))

@@ -1,6 +1,8 @@
 // The text of each line that the programs print, written into a lent buffer; `hex` has those of `console`. Every
 // function writes from the position at on, as far as the buffer goes, and answers the position after what it wrote. Its
 // promise also says how many bytes the text has at most, so that a caller knows how long a buffer holds it whole.
+#![tactic(auto)]
+
 pub mod cells;
 pub mod ending;
 mod hex;

@@ -1,7 +1,7 @@
 -- Laws of a session from one of its lines on: it ends with the bytes, breaks off at a 7, or goes on after a request.
 -- And what is printed of it.
 use Prim.Native.Nat.{ℕ, ◌+◌, ◌≤◌, ◌<◌}
-use mathlib.Core.Path.{◌≡◌, refl}
+use mathlib.Core.Path.{◌≡◌, refl, ap}
 use mathlib.Core.Bool.{true}
 use mathlib.Core.List.{List, [], ◌∷◌, append-nil}
 use mathlib.Core.Option.{none, some}
@@ -11,7 +11,7 @@ use Rattle.model.specs.declared.Topology.{Topology}
 use Rattle.model.specs.Outcome.{refused}
 use Rattle.model.specs.Record.{AreBytes}
 use Rattle.model.specs.State.{GlobalState, view}
-use Rattle.model.specs.Program.{BudgetSource, Request, Served, Session, read_request, reading_then, read_all, serve}
+use Rattle.model.specs.Program.{BudgetSource, Request, Readings, Served, Session, read_request, reading_then, read_all, serve}
 use Rattle.model.specs.Program.{line_then, broken_line, session, session_from}
 use Rattle.report.specs.Appends.{Appends}
 use Rattle.report.specs.TextBytes.{line_bytes}
@@ -42,11 +42,10 @@ module _ (source : BudgetSource) (T : Topology) (n : ℕ) (s : GlobalState) (sto
   more [] q after h e = absurd (omega (arith, fewer (request_after source [] h q after e)))
   more (b ∷ bytes) q after h e =
       let a = request_after source (b ∷ bytes) h q after e in
-      rw (
-        e,
-        reading_then,
-        fuel source (length bytes) (length after) after (bytes_after a h) (omega (arith, fewer a)) (omega arith),
-      )
+      let x : Served = serve T s store q.budget q.content in
+      let same = fuel source (length bytes) (length after) after (bytes_after a h) (omega (arith, fewer a)) (omega arith) in
+      rw (e, reading_then)
+      (ap (λ (r : Readings). line_then n x (session T r.broken (n + 1) x.state x.store r.requests)) same)
 
 -- What the rest of a session, of n bytes, prints at this place is what all of it, of n₀ bytes, prints from where it
 -- began.

@@ -1,5 +1,7 @@
 // The work of the programs `head` and `drill`: one function from the input's bytes to the output's bytes each. They
 // differ only in where a call's budget comes from, in the store at first, and in what is printed of it.
+#![tactic(auto)]
+
 mod play;
 mod request;
 mod serve;

@@ -1,6 +1,6 @@
 -- The answers so far are the run's, so the past is that of its trace; then the state worked out is the run's, and so is
 -- the next answer.
-use Prim.Native.Nat.{ℕ, zero, suc, ◌+◌}
+use Prim.Native.Nat.{ℕ, zero, suc}
 use mathlib.Core.Path.{◌≡◌, refl, sym, ap, subst, ◌∙◌}
 use mathlib.Core.Bool.{Bool, true, false, cond}
 use mathlib.Core.List.{List, [], ◌∷◌, ◌++◌, map, map-append}
@@ -64,7 +64,8 @@ deed_is : (T : Topology) (calls : List Listed) (answers : List CallAnswer) (i : 
     → deed_for calls answers i ≡ deed_of (reply_at T (contents calls) i)
 unfolding deed_of
 deed_is T calls answers i s =
-    rw (s.outcome, s.made, call_of_lem T (world_at T (contents calls) i) (contents calls i), fields_of_lem (contents calls i))
+    let content = contents calls i in
+    rw (s.outcome, s.made, call_of_lem T (world_at T (contents calls) i) content, fields_of_lem content)
 
 -- A deed of an accepted call names what is planned.
 abbrev deed_when : Bool → Fields → ℕ → Bool → ℕ → Deed

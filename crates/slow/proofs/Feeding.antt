@@ -12,7 +12,8 @@ use native.Mathlib.Omega.{arith}
 use Rattle.model.specs.declared.Topology.{Topology}
 use Rattle.model.specs.Notation.{tabulate}
 use Rattle.model.specs.Topology.{sender, receiver, topology_refusal}
-use Rattle.model.specs.History.{Event, History, Direction, sent, received, same_direction, is_on, bodies_on, place_of_send}
+use Rattle.model.specs.History.{Event, History, Direction, sent, received, same_direction}
+use Rattle.model.specs.History.{is_on, bodies_on, place_of_send}
 use Rattle.model.specs.History.{is_after, looked_at, sent_after_mark, add_event, mark_unmarked, on_message}
 use Rattle.model.proofs.laws.Tests.{Tested, holds, fails, test}
 use Rattle.model.proofs.laws.Functions.{Indices, same, other, indices}

@@ -1,7 +1,7 @@
 -- Laws of what is pushed onto a channel from a history.
 use Prim.Native.Nat.{ℕ, zero, suc, ◌+◌, ◌<◌, ◌≤◌}
 use mathlib.Core.Path.{◌≡◌, refl, sym, ap, ◌∙◌}
-use mathlib.Core.Bool.{Bool, true, false, cond, ◌&&◌, and_false}
+use mathlib.Core.Bool.{Bool, true, false, cond, ◌&&◌, and-false}
 use mathlib.Core.List.{List, [], ◌∷◌, ◌++◌, append-nil, append_assoc}
 use lib.ListN.{get_or, length, take, length-append, length-take, drop_of_length-le}
 use lib.Seq.{take_all, take-append-le, drop-append-le}
@@ -55,7 +55,7 @@ between_more from to xs true x = go (test (ltb (length xs) to)) (test (leb from 
         let few : length (take to xs) ≤ from = omega (arith, length-take to xs, min-le_right to (length xs), short) in
         rw (drop_of_length-le (take to more) {i = from} all, drop_of_length-le (take to xs) {i = from} few, m)
     go (fails l) t =
-        rw (take-append-le to xs (x ∷ []) (ltb-false (length xs) to l), l, and_false (leb from (length xs)))
+        rw (take-append-le to xs (x ∷ []) (ltb-false (length xs) to l), l, and-false (leb from (length xs)))
         (sym (append-nil (between from to xs)))
 
 -- The first k places of a history: how many sends there are, what is pushed onto the channel, and that there is room.

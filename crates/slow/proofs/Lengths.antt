@@ -5,7 +5,6 @@ use lib.ListN.{length}
 use mir.Val.{Val}
 use denote.Laws.{Is}
 use denote.Struct.Declared.{row}
-use Rattle.model.proofs.laws.Functions.{length_of}
 use Rattle.model.specs.declared.Channel.{Channel}
 use Rattle.model.specs.contracts.Channel as channel
 use Rattle.slow.specs.declared.past.Past.{Past}
@@ -14,7 +13,7 @@ use Rattle.slow.specs.declared.histories.Histories.{Histories}
 use Rattle.slow.specs.contracts.histories.Histories as histories
 
 pub deeds_length : (p : Past) (v : List Val) → Is (row the_type) p v → length p.deeds ≡ 256
-deeds_length p v g = length_of _ p.deeds 256 g.1.1.0.1.0.1
+deeds_length p v g = g.1.1.0.1.0.1
 
 pub record Arrays (b : Histories) : Type 0 where
   pub entries : length b.entries ≡ 4096
@@ -25,10 +24,10 @@ pub record Arrays (b : Histories) : Type 0 where
 pub arrays : (b : Histories) (v : List Val) → Is (row histories.the_type) b v → Arrays b
 arrays b v g =
     record {
-      entries = length_of _ b.entries 4096 g.1.1.0.1.0.1;
-      counts = length_of _ b.counts 16 g.1.1.1.0.1.0.1;
-      lines = length_of _ b.lines 16 g.1.1.1.1.0.1.0.1;
-      marks = length_of _ b.marks 16 g.1.1.1.1.1.0.1.0.1;
+      entries = g.1.1.0.1.0.1;
+      counts = g.1.1.1.0.1.0.1;
+      lines = g.1.1.1.1.0.1.0.1;
+      marks = g.1.1.1.1.1.0.1.0.1;
     }
 
 pub record Places (c : Channel) : Type 0 where
@@ -38,6 +37,6 @@ pub record Places (c : Channel) : Type 0 where
 pub places : (c : Channel) (v : List Val) → Is (row channel.the_type) c v → Places c
 places c v g =
     record {
-      bodies = length_of _ c.bodies 8 g.1.1.0.1.0.1;
-      kinds = length_of _ c.kinds 8 g.1.1.1.0.1.0.1;
+      bodies = g.1.1.0.1.0.1;
+      kinds = g.1.1.1.0.1.0.1;
     }

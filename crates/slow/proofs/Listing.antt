@@ -18,7 +18,7 @@ use Rattle.model.specs.Reduction.{list_refusal}
 use Rattle.model.proofs.laws.Functions.{Indices, same, other, indices, seen_replicate}
 use Rattle.model.proofs.laws.Lists.{tabulate_length, tabulate_cong, map_tabulate}
 use Rattle.slow.specs.declared.CallAnswer.{CallAnswer}
-use Rattle.slow.specs.Replays.{call_said, unanswered, answered}
+use Rattle.slow.specs.Replays.{unanswered, answered, told_by}
 use Rattle.slow.specs.SoFar.{Says, AnsweredSoFar, reply_at, contents}
 use Rattle.slow.proofs.AsRun.{trace_is}
 
@@ -42,7 +42,8 @@ module _ {T : Topology} {calls : List Listed} {answers : List CallAnswer} {n : �
         places = length-set answers n a ∙ h.places;
       }
     where
-      go : (i : ℕ) → i < n + 1 → Indices n i → Says (get_or (set answers n a) i unanswered) (reply_at T (contents calls) i)
+      go : (i : ℕ) → i < n + 1 → Indices n i
+          → Says (get_or (set answers n a) i unanswered) (reply_at T (contents calls) i)
       go i m (same e) = rw (← e, get_or-set_same answers n a unanswered (omega (arith, l, h.places))) s
       go i m (other d) = rw (get_or-set_other answers n i a unanswered (λ e. d (sym e))) (h.told i (omega (arith, d)))
 
@@ -62,13 +63,11 @@ module _ (T : Topology) (list : CallList) where
 
   -- the answers, in order
   pub all_answered : (answers : List CallAnswer) → AnsweredSoFar T list.calls list.count answers
-      → tabulate list.count
-      (λ i. record { outcome = call_said (get_or answers i unanswered).outcome; made = (get_or answers i unanswered).made })
+      → tabulate list.count (λ i. told_by (get_or answers i unanswered))
       ≡ map answered (replies T (listed list))
   unfolding replies listed
   all_answered answers h =
-      tabulate_cong list.count
-      (λ i. record { outcome = call_said (get_or answers i unanswered).outcome; made = (get_or answers i unanswered).made })
+      tabulate_cong list.count (λ i. told_by (get_or answers i unanswered))
       (λ i. answered (reply_at T (contents list.calls) i))
       (λ i l j. record { outcome = (h.told i l).outcome j; made = (h.told i l).made j })
       ∙ sym (ap (map answered) (trace_is T (contents list.calls) list.count)

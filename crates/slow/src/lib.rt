@@ -2,6 +2,8 @@
 // works out from that list where the head stands, and from there the next answer. No function of `engine` or `recovery`
 // is called, and no step: shared with them are the topology's check and the word rule (`rules::topology` and
 // `rules::word`), and nothing else.
+#![tactic(auto)]
+
 mod contents;
 mod feed;
 mod histories;

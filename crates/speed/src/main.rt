@@ -13,8 +13,8 @@ mod sum;
 mod writes;
 
 use crate::input::{PLAN, after_plan, byte, number};
-use libc::STDOUT_FILENO;
 use model::Verdict;
+use std::io;
 
 fn work(bytes: &mut [u8]) -> u32 {
     if bytes.len() < PLAN {
@@ -39,10 +39,9 @@ fn work(bytes: &mut [u8]) -> u32 {
     }
 }
 
-fn main() {
-    let mut bytes = io::large_buffer();
-    let n = io::read_full(libc::STDIN_FILENO, &mut bytes);
+fn main(rt: HostRuntime) -> io::Result<()> {
+    let mut bytes = stream::large_buffer();
+    let n = stream::read_full(&mut rt.stdin(), &mut bytes)?;
     let sum = work(&mut bytes[..n]);
-    io::print_decimal(STDOUT_FILENO, sum as u64);
-    io::write_all(STDOUT_FILENO, b"\n");
+    println!(rt; "{sum}")
 }

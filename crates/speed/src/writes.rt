@@ -38,7 +38,7 @@ fn write_all(out: &mut [u8], script: &[u8], turn: u32) -> usize {
 }
 
 pub fn run(times: u32, script: &[u8]) -> u32 {
-    let mut out = io::large_buffer();
+    let mut out = stream::large_buffer();
     let mut sum = 0;
     let mut i: u32 = 0;
     while i < times {

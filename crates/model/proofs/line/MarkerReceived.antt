@@ -6,7 +6,7 @@ use mathlib.Core.List.{List, ◌∷◌}
 use Rattle.model.specs.declared.Phase.TheVariants.{Logical}
 use Rattle.model.specs.declared.Entry.{Entry}
 use Rattle.model.specs.declared.Entry.TheVariants.{Marker}
-use Rattle.model.specs.Topology.{sender, receiver}
+use Rattle.model.specs.Topology.{receiver}
 use Rattle.model.specs.Channel.{bodies, markerless, messages}
 use Rattle.model.specs.State.{GlobalState}
 use Rattle.model.specs.Change.{set_entries, with_channel}

@@ -6,25 +6,25 @@ use Rattle.operator.proofs.Asking.{asks_nothing, asks}
 use Rattle.operator.proofs.asked.Statement.{statement}
 use Rattle.operator.proofs.asked.Tie as tie
 
-nothing : tie.Need-returns
-nothing c = asks_nothing c.before.args.input.now c.if1.true
+nothing : tie.Need-returns-then-input-lt1
+nothing c = asks_nothing c.args.input.now c.if-input-lt1.true
 
-reduction : tie.Need-returns-2
-reduction c = sym (asks _ c.before.before.if1.false ∙ rw c.match.keys1)
+reduction : tie.Need-returns-in-1
+reduction c = sym (asks _ c.if-input-lt1.false ∙ rw c.in-1.is)
 
-upgrade : tie.Need-returns-3
-upgrade c = sym (asks _ c.before.before.if1.false ∙ rw c.match.keys2)
+upgrade : tie.Need-returns-in-2
+upgrade c = sym (asks _ c.if-input-lt1.false ∙ rw c.in-2.is)
 
-downgrade : tie.Need-returns-4
-downgrade c = sym (asks _ c.before.before.if1.false ∙ rw c.match.keys3)
+downgrade : tie.Need-returns-in-3
+downgrade c = sym (asks _ c.if-input-lt1.false ∙ rw c.in-3.is)
 
-replay : tie.Need-returns-5
-replay c = sym (asks _ c.before.before.if1.false ∙ rw c.match.keys4)
+replay : tie.Need-returns-in-4
+replay c = sym (asks _ c.if-input-lt1.false ∙ rw c.in-4.is)
 
-other : tie.Need-returns-6
+other : tie.Need-returns-in_default
 other c =
-    let none = c.match.rest in
-    sym (asks _ c.before.before.if1.false
+    let none = c.in_default.in_default-own.rest in
+    sym (asks _ c.if-input-lt1.false
     ∙ rw (
       ne_eqb _ _ none.0.0.0.1,
       ne_eqb _ _ none.0.0.1,

@@ -11,54 +11,38 @@ use Rattle.operator.proofs.Lines.{line}
 use Rattle.operator.proofs.console.Statement.{statement}
 use Rattle.operator.proofs.console.Tie as tie
 
-taken_few : (c : tie.After-taken) → length c.taken.result.now ≤ input_bytes
-taken_few c = few c.before.before.args.input.now c.taken.ensures
+taken_few : (c : tie.After-taken-bytes) → length c.taken-bytes.result.now ≤ input_bytes
+taken_few c = few c.args.input.now c.taken-bytes.ensures
 
-reduces : tie.Need-returns
+reduces : tie.Need-returns-in-Reduction
 unfolding answer_to
 reduces c =
-    let told = c.before.before in
-    let asked = told.before.before in
-    let t = asked.before in
-    let start = t.before.before in
-    tells start.args.input.now t.taken.ensures (sym told.enum_told.given.1 ∙ asked.asked.ensures)
-    (omega (arith, start.well-formed)) c.reduce.ensures
+    tells c.args.input.now c.taken-bytes.ensures (sym c.in-Reduction.is ∙ c.asked.ensures)
+    (omega (arith, c.well_formed)) c.reduce.ensures
 
-carries : tie.Need-returns-2
+carries : tie.Need-returns-in-Carry
 unfolding answer_to
 carries c =
-    let told = c.before.before.before in
-    let asked = told.before.before in
-    let t = asked.before in
-    let start = t.before.before in
-    tells start.args.input.now t.taken.ensures (sym told.way.given.1 ∙ asked.asked.ensures)
-    (omega (arith, start.well-formed)) c.show.ensures
+    tells c.args.input.now c.taken-bytes.ensures (sym c.in-Carry.is ∙ c.asked.ensures)
+    (omega (arith, c.well_formed)) c.show.ensures
 
-replays : tie.Need-returns-3
+replays : tie.Need-returns-in-Replay
 unfolding answer_to
 replays c =
-    let told = c.before.before in
-    let asked = told.before.before in
-    let t = asked.before in
-    let start = t.before.before in
-    tells start.args.input.now t.taken.ensures (sym told.enum-told2.given.1 ∙ asked.asked.ensures)
-    (omega (arith, start.well-formed)) c.replay.ensures
+    tells c.args.input.now c.taken-bytes.ensures (sym c.in-Replay.is ∙ c.asked.ensures)
+    (omega (arith, c.well_formed)) c.replay.ensures
 
-unknown : tie.Need-returns-4
+unknown : tie.Need-returns-in-Unknown
 unfolding answer_to
 unknown c =
-    let told = c.before.before in
-    let asked = told.before.before in
-    let t = asked.before in
-    let start = t.before.before in
-    tells start.args.input.now t.taken.ensures (sym told.enum-told3.given.1 ∙ asked.asked.ensures)
-    (omega (arith, start.well-formed)) (line c.nothing_known.ensures)
+    tells c.args.input.now c.taken-bytes.ensures (sym c.in-Unknown.is ∙ c.asked.ensures)
+    (omega (arith, c.well_formed)) (line c.nothing_known.ensures)
 
 pub console_spec : {M : Type 1} → statement M
 console_spec =
     tie.close
     (tie.spec (λ c κs. search rules) (λ c κs. search rules) (λ c. search rules)
-    (λ c κs. taken_few c.before.before.before.before) (λ c. search rules)
-    (λ c κs. taken_few c.before.before.before.before.before) (λ c. search rules)
-    (λ c κs. taken_few c.before.before.before.before) (λ c. search rules) (λ c κs. search rules)
+    (λ c κs. taken_few c.before.before.before) (λ c. search rules)
+    (λ c κs. taken_few c.before.before.before) (λ c. search rules)
+    (λ c κs. taken_few c.before.before.before) (λ c. search rules) (λ c κs. search rules)
     reduces carries replays unknown)

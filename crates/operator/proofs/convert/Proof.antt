@@ -12,51 +12,35 @@ use Rattle.operator.proofs.Files.{filed}
 use Rattle.operator.proofs.convert.Statement.{statement}
 use Rattle.operator.proofs.convert.Tie as tie
 
-taken_few : (c : tie.After-taken) → length c.taken.result.now ≤ input_bytes
-taken_few c = few c.before.before.args.input.now c.taken.ensures
+taken_few : (c : tie.After-taken-bytes) → length c.taken-bytes.result.now ≤ input_bytes
+taken_few c = few c.args.input.now c.taken-bytes.ensures
 
-reduction : tie.Need-returns
+reduction : tie.Need-returns-in-Reduction
 unfolding file_to
 reduction c =
-    let told = c.before.before in
-    let asked = told.before.before in
-    let t = asked.before in
-    let start = t.before.before in
-    filed start.args.input.now t.taken.ensures (sym told.enum_told.given.1 ∙ asked.asked.ensures)
-    (whole_text c.nothing_known.ensures (omega (arith, start.well-formed)))
+    filed c.args.input.now c.taken-bytes.ensures (sym c.in-Reduction.is ∙ c.asked.ensures)
+    (whole_text c.nothing_known.ensures (omega (arith, c.well_formed)))
 
-carries : tie.Need-returns-2
+carries : tie.Need-returns-in-Carry
 carries c =
-    let told = c.before.before.before in
-    let asked = told.before.before in
-    let t = asked.before in
-    let start = t.before.before in
-    filed start.args.input.now t.taken.ensures (sym told.way.given.1 ∙ asked.asked.ensures)
-    (whole_text c.file.ensures (omega (arith, start.well-formed)))
+    filed c.args.input.now c.taken-bytes.ensures (sym c.in-Carry.is ∙ c.asked.ensures)
+    (whole_text c.file.ensures (omega (arith, c.well_formed)))
 
-replay : tie.Need-returns-3
+replay : tie.Need-returns-in-Replay
 unfolding file_to
 replay c =
-    let told = c.before.before in
-    let asked = told.before.before in
-    let t = asked.before in
-    let start = t.before.before in
-    filed start.args.input.now t.taken.ensures (sym told.enum-told2.given.1 ∙ asked.asked.ensures)
-    (whole_text c.nothing-known2.ensures (omega (arith, start.well-formed)))
+    filed c.args.input.now c.taken-bytes.ensures (sym c.in-Replay.is ∙ c.asked.ensures)
+    (whole_text c.nothing_known-in-Replay.ensures (omega (arith, c.well_formed)))
 
-unknown : tie.Need-returns-4
+unknown : tie.Need-returns-in-Unknown
 unfolding file_to
 unknown c =
-    let told = c.before.before in
-    let asked = told.before.before in
-    let t = asked.before in
-    let start = t.before.before in
-    filed start.args.input.now t.taken.ensures (sym told.enum-told3.given.1 ∙ asked.asked.ensures)
-    (whole_text c.nothing-known3.ensures (omega (arith, start.well-formed)))
+    filed c.args.input.now c.taken-bytes.ensures (sym c.in-Unknown.is ∙ c.asked.ensures)
+    (whole_text c.nothing_known-in-Unknown.ensures (omega (arith, c.well_formed)))
 
 pub convert_spec : {M : Type 1} → statement M
 convert_spec =
     tie.close
     (tie.spec (λ c κs. search rules) (λ c κs. search rules) (λ c. search rules) (λ c κs. search rules)
-    (λ c. search rules) (λ c κs. taken_few c.before.before.before.before.before) (λ c. search rules)
+    (λ c. search rules) (λ c κs. taken_few c.before.before.before) (λ c. search rules)
     (λ c κs. search rules) (λ c. search rules) (λ c κs. search rules) reduction carries replay unknown)

@@ -4,11 +4,11 @@ use Rattle.operator.proofs.Asking.{takes_nothing, takes_others}
 use Rattle.operator.proofs.taken.Statement.{statement}
 use Rattle.operator.proofs.taken.Tie as tie
 
-nothing : tie.Need-returns
-nothing c = takes_nothing c.before.before.args.input.now c.if1.true
+nothing : tie.Need-returns-then-input-lt1
+nothing c = takes_nothing c.args.input.now c.if-input-lt1.true
 
-others : tie.Need-returns-2
-others c = takes_others c.before.before.before.before.args.input.now c.taken.ensures
+others : tie.Need-returns
+others c = takes_others c.args.input.now c.taken.ensures
 
 pub taken_spec : {M : Type 1} → statement M
 taken_spec =

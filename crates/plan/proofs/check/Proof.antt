@@ -41,17 +41,15 @@ fit c = sym c.sizes-sizes.ensures ∙ ap refusal_of c.in_default.is
 broken : tie.Need-returns-then-bytes-plan_length
 unfolding refusal_of shape_refusal or_else first_refusal
 broken c =
-    let p = c.before in
-    let k = p.before in
-    rw (two k.before, fit k, ← p.plan_length.ensures, lt-ltb _ _ c.if-bytes-plan_length.true)
+    let k = c.before.before in
+    rw (two k.before, fit k, ← c.plan_length.ensures, lt-ltb _ _ c.if-bytes-plan_length.true)
 
 passes : tie.Need-returns
 unfolding refusal_of shape_refusal or_else first_refusal
 passes c =
-    let p = c.before in
-    let k = p.before in
-    let whole : p.plan_length.result ≤ length (start k.before).args.bytes.now = c.if-bytes-plan_length.false in
-    rw (two k.before, fit k, ← p.plan_length.ensures, le-ltb _ _ whole)
+    let k = c.before.before in
+    let whole : c.plan_length.result ≤ length (start k.before).args.bytes.now = c.if-bytes-plan_length.false in
+    rw (two k.before, fit k, ← c.plan_length.ensures, le-ltb _ _ whole)
 
 pub check_spec : {M : Type 1} → statement M
 check_spec =

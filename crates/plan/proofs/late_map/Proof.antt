@@ -11,8 +11,7 @@ use Rattle.plan.proofs.late_map.Tie as tie
 inside : (c : tie.After-map_start-at) → c.map_start-at.result + 1 < length c.args.bytes.now
 unfolding map_start
 inside c =
-    let start = c.before.before in
-    omega (arith, (whole start.args.bytes.now start.requires).all, c.map_start-at.ensures.0)
+    omega (arith, (whole c.args.bytes.now c.requires).all, c.map_start-at.ensures.0)
 
 abbrev at : tie.After-shared_slice_known-3-1 → ℕ
 at c = c.map_start-at.result

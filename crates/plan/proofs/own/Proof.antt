@@ -9,12 +9,11 @@ use Rattle.plan.proofs.own.Tie as tie
 
 all_own : tie.Need-returns-then-bytes-length
 all_own c =
-    let p = c.before in
-    let bytes = p.args.bytes.now in
-    sym (take_all (plan_length bytes) bytes (omega (arith, p.plan_length-length.ensures)))
+    let bytes = c.args.bytes.now in
+    sym (take_all (plan_length bytes) bytes (omega (arith, c.plan_length-length.ensures)))
 
 pub own_spec : {M : Type 1} → statement M
 own_spec =
     tie.close
-    (tie.spec (λ c κs. search rules) all_own (λ c. sym (length-take-le _ _ c.if1.false))
-    (λ c. rw c.plan-length.ensures))
+    (tie.spec (λ c κs. search rules) all_own (λ c. sym (length-take-le _ _ c.if-bytes-length.false))
+    (λ c. rw c.plan_length-length.ensures))

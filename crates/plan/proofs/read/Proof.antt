@@ -11,9 +11,7 @@ use Rattle.plan.proofs.read.Tie as tie
 misshapen : tie.Need-returns-in-Refuse
 unfolding refusal_of plan_refusal or_else plan_in plan_or
 misshapen c =
-    let told = c in
-    let k = told.before.before in
-    c.refused.ensures ∙ rw (sym k.check.ensures ∙ ap refusal_of told.in-Refuse.is)
+    c.refused.ensures ∙ rw (sym c.check.ensures ∙ ap refusal_of c.in-Refuse.is)
 
 shaped : tie.Need-topology-topology-requires
 unfolding refusal_of
@@ -22,21 +20,16 @@ shaped c κs = sym c.check.ensures ∙ ap refusal_of c.in_default.is
 refused : tie.Need-returns-in-Refuse-check
 unfolding refusal_of plan_refusal or_else plan_in plan_or
 refused c =
-    let told = c in
-    let k = told.before.before in
-    let p = k.before in
     c.refused-in-Refuse-check.ensures
-    ∙ rw (shaped p.before _, ← p.topology-topology.ensures, sym k.check-2.ensures ∙ ap refusal_of told.in-Refuse-check.is)
+    ∙ rw (shaped c.before.before.before.before c.lifetimes, ← c.topology-topology.ensures, sym c.check-2.ensures ∙ ap refusal_of c.in-Refuse-check.is)
 
 passes : tie.Need-returns-in-Pass
 unfolding refusal_of plan_refusal or_else plan_in plan_or
 passes c =
-    let k = c.before in
-    let p = k.before in
     rw (
-      shaped p.before _,
-      ← p.topology-topology.ensures,
-      sym k.check-2.ensures ∙ ap refusal_of c.in-Pass.is,
+      shaped c.before.before.before c.lifetimes,
+      ← c.topology-topology.ensures,
+      sym c.check-2.ensures ∙ ap refusal_of c.in-Pass.is,
     )
 
 pub read_spec : {M : Type 1} → statement M

@@ -11,16 +11,14 @@ use Rattle.plan.proofs.rest.Tie as tie
 
 none_left : tie.Need-returns-then-bytes-next
 none_left c =
-    let p = c.before.before in
-    let bytes = p.before.before.args.bytes.now in
-    sym (drop_of_length-le bytes {i = plan_length bytes} (omega (arith, p.plan-length.ensures)))
+    let bytes = c.args.bytes.now in
+    sym (drop_of_length-le bytes {i = plan_length bytes} (omega (arith, c.plan_length-next.ensures)))
 
 some_left : tie.Need-returns
 some_left c =
-    let p = c.before.before in
-    let bytes = p.args.bytes.now in
-    let next = p.plan_length-next.result in
-    rw (← p.plan_length-next.ensures)
+    let bytes = c.args.bytes.now in
+    let next = c.plan_length-next.result in
+    rw (← c.plan_length-next.ensures)
     (take_all (length bytes - next) (drop next bytes) (rw length-drop (omega arith)))
 
 pub rest_spec : {M : Type 1} → statement M

@@ -10,4 +10,4 @@ pub taken_spec : {M : Type 1} → statement M
 taken_spec =
     tie.close
     (tie.spec (λ c. sym (take_all input_bytes c.args.input.now (omega arith)))
-    (λ c. sym (length-take-le input_bytes c.before.before.args.input.now c.if1.false)) (λ c. refl))
+    (λ c. sym (length-take-le input_bytes c.args.input.now c.if-input-lt-INPUT_BYTES.false)) (λ c. refl))

@@ -12,9 +12,7 @@ known c = whole c.args.bytes.now c.requires
 returns : tie.Need-returns
 unfolding plan_of
 returns c =
-    let late = c.before.before in
-    let to = late.before in
-    rw (to.ends-from.ensures, to.ends-to.ensures, late.late_map-late.ensures)
+    rw (c.ends-from.ensures, c.ends-to.ensures, c.late_map-late.ensures)
 
 pub topology_spec : {M : Type 1} → statement M
 topology_spec =

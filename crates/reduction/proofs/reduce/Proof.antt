@@ -18,12 +18,11 @@ use Rattle.reduction.proofs.Reducing.{failure_reduces}
 use Rattle.reduction.proofs.reduce.Statement.{statement}
 use Rattle.reduction.proofs.reduce.Tie as tie
 
-long : tie.Need-returns
+long : tie.Need-returns-then-list-gt-LISTED
 long c =
-    let start = c.before.before.before in
     rw c.refused.ensures
     (refused_reduces _ _ _
-    (sought_long start.args.topology (listed start.args.list) (rw listed_length c.before.if1.true)))
+    (sought_long c.args.topology (listed c.args.list) (rw listed_length c.if-list-gt-LISTED.true)))
 
 -- a list that isn't too long, and the plan's checks
 module _ (c : tie.After-check) where
@@ -31,93 +30,91 @@ module _ (c : tie.After-check) where
   start = c.before.before.before
 
   fits : start.args.list.count ≤ list_limit
-  fits = c.before.if1.false
+  fits = c.if-list-gt-LISTED.false
 
   few : length (listed start.args.list) ≤ list_limit
   few = rw listed_length fits
 
-plan : tie.Need-returns-2
+plan : tie.Need-returns-in-Refuse
 unfolding refusal_of
 plan c =
-    let checked = c.before.before.before.before in
-    rw c.refused2.ensures
+    let checked = c.before.before in
+    rw c.refused-in-Refuse.ensures
     (refused_reduces _ _ _
     (sought_plan _ _ (few checked)
-    (sym checked.check.ensures ∙ ap refusal_of c.before.before.r.given.1)))
+    (sym checked.check.ensures ∙ ap refusal_of c.in-Refuse.is)))
 
 -- the plan passes, and all calls were run
-module _ (c : tie.After-replay) where
+module _ (c : tie.After-replay-replayed) where
   abbrev checked : tie.After-check
-  checked = c.before.before.before.before
+  checked = c.before.before.before
 
   passes : topology_refusal (start checked).args.topology ≡ none
   unfolding refusal_of
-  passes = sym checked.check.ensures ∙ ap refusal_of c.before.before.enum_told.given.1
+  passes = sym checked.check.ensures ∙ ap refusal_of c.in_default.is
 
-  ran : end_of c.replay.result.end
+  ran : end_of c.replay-replayed.result.end
       ≡ first_failure (start checked).args.topology (listed (start checked).args.list)
   unfolding first_failure
   ran =
-      let all = all_calls (start checked).args.list c.before.first.ensures in
-      c.replay.ensures.end ∙ ap (first_failure (start checked).args.topology) all
+      let all = all_calls (start checked).args.list c.first-all.ensures in
+      c.replay-replayed.ensures.end ∙ ap (first_failure (start checked).args.topology) all
 
-through : tie.Need-returns-3
+through : tie.Need-returns-in_default-end
 through c =
-    let r = c.before.before.before in
-    rw c.refused3.ensures
+    let r = c.before.before in
+    rw c.refused-in_default-end.ensures
     (refused_reduces _ _ _
-    (sought_none _ _ (few (checked r)) (passes r) (sym (ran r) ∙ ap end_of c.before.enum-told2.given.1)))
+    (sought_none _ _ (few (checked r)) (passes r) (sym (ran r) ∙ ap end_of c.in_default-end.is)))
 
 -- a call was refused
-module _ (c : tie.After-known-told2) where
-  abbrev replayed : tie.After-replay
-  replayed = c.before.before.before
+module _ (c : tie.In-Refused) where
+  abbrev replayed : tie.After-replay-replayed
+  replayed = c.before
 
   abbrev given : tie.Start
   given = start (checked replayed)
 
   abbrev failure : Failure
-  failure = record { place = c.before.end.given.0.0; number = refusal_number c.before.end.given.0.1.0 }
+  failure = record { place = c.in-Refused.place; number = refusal_number c.in-Refused.refusal }
 
   fails : first_failure given.args.topology (listed given.args.list) ≡ some failure
-  fails = sym (ran replayed) ∙ ap end_of c.before.end.given.1
+  fails = sym (ran replayed) ∙ ap end_of c.in-Refused.is
 
   within : failure.place < list_limit
   within =
       omega (arith, listed_place_lem given.args.topology given.args.list failure fails, fits (checked replayed))
 
 -- the calls up to it
-module _ (c : tie.After-first2) where
-  abbrev at : tie.After-known-told2
+module _ (c : tie.After-first-whole) where
+  abbrev at : tie.In-Refused
   at = c.before
 
   abbrev refusal : Refusal
-  refusal = at.before.end.given.0.1.0
+  refusal = at.in-Refused.refusal
 
-  whole : Failing (given at).args.topology (given at).args.list (failure at) c.first2.result
+  whole : Failing (given at).args.topology (given at).args.list (failure at) c.first-whole.result
   whole =
       whole_fails (given at).args.topology (given at).args.list (failure at) (fails at) (within at)
-      c.first2.ensures
+      c.first-whole.ensures
 
-  last : last_failure c.first2.result refusal ≡ failure at
+  last : last_failure c.first-whole.result refusal ≡ failure at
   last = last_failure_lem whole refusal refl
 
-found : tie.Need-returns-4
+found : tie.Need-returns
 found c =
-    let replayed-part = c.before in
-    let shrunk = replayed-part.before in
-    let f = shrunk.before in
-    let small = rw (last f) at shrunk.shrink.ensures in
+    let f = c.before.before.before in
+    let small = rw (last f) at c.shrink-part.ensures in
     let r = replayed (at f) in
     failure_reduces _ _ _ (refusal f) _ (sought_failure _ _ (few (checked r)) (passes r) (fails (at f))) small.0
-    small.1 replayed-part.replay2.ensures
+    small.1 c.replay-smallest.ensures
 
 pub reduce_spec : {M : Type 1} → statement M
 reduce_spec =
     tie.close
     (tie.spec (λ c. search rules) (λ c κs. search rules) long (λ c κs. search rules) (λ c. search rules)
-    (λ c κs. search rules) plan (λ c. search rules) (λ c κs. fits c.before.before)
-    (λ c κs. held_places (fits c.before.before.before) c.first.ensures) (λ c. search rules) (λ c. search rules)
+    (λ c κs. search rules) plan (λ c. search rules) (λ c κs. fits c.before)
+    (λ c κs. held_places (fits c.before.before) c.first-all.ensures) (λ c. search rules) (λ c. search rules)
     (λ c κs. search rules) through (λ c. omega (arith, within c))
     (λ c κs. omega (arith, within c)) (λ c κs. rw (last c) (whole c))
-    (λ c κs. c.shrink.ensures.0) found)
+    (λ c κs. c.shrink-part.ensures.0) found)

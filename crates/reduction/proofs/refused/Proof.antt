@@ -6,7 +6,7 @@ use Rattle.reduction.proofs.refused.Tie as tie
 
 returns : tie.Need-returns
 unfolding tabulate
-returns c = rw c.first.ensures
+returns c = rw c.first-part.ensures
 
 pub refused_spec : {M : Type 1} → statement M
 refused_spec = tie.close (tie.spec (λ c κs. search rules) returns)

@@ -31,26 +31,25 @@ below t = and 1 kinds.ps (falls 1 kinds.ps ◌<◌ μ-decimal t) reads.Pre
 
 returns : (t : ℕ) → lts.Need-returns (below t, reads.Post, bytes.Asked, bytes.Learnt) (given t) reads.Post
 returns t c =
-    let start = c.before.before.before.before.before.before.before in
-    let joined = c.before.before.before.before.before.if1 in
-    let last = c.before.before.bytes.ensures in
+    let joined = c.if-n-ge10 in
+    let last = c.bytes.ensures in
     let others : ℕ → List ℕ → Type 0 =
-    λ most text. Appends most start.args.out.now start.args.at text joined.out joined.next in
-    let n = start.args.n in
-    let few = decimal_length 9 n (omega (arith, start.ranges.n)) in
+    λ most text. Appends most c.args.out.now c.args.at text joined.out joined.next in
+    let n = c.args.n in
+    let few = decimal_length 9 n (omega (arith, c.ranges.n)) in
     ⊎_elim
     (λ w.
-    let first : others number_bytes (decimal (n / 10)) = rw (w.5, w.6) w.2.ensures in
-    let text = decimal_more n w.0.taken in
+    let first : others number_bytes (decimal (n / 10)) = rw (w.out-is, w.next-is) w.decimal-next.ensures in
+    let text = decimal_more n w.if-n-ge10.true in
     rw text (of_length (first then last) (rw text at few)))
     (λ w.
-    let first : others 0 [] = rw (w.1, w.2) (nothing start.args.out.now start.args.at) in
-    let text = decimal_one n w.0.left in
+    let first : others 0 [] = rw (w.out-is, w.next-is) (nothing c.args.out.now c.args.at) in
+    let text = decimal_one n w.if-n-ge10.false in
     rw text (of_length (first then last) (rw text at few)))
-    joined.branch
+    joined.branch-raw
 
-pub +decimal-spec : {M : Type 1} → statement M
-+decimal-spec =
+pub +decimal_spec : {M : Type 1} → statement M
++decimal_spec =
     close μ-decimal
     (λ t. lts.spec
     (below t, reads.Post, bytes.Asked, bytes.Learnt)

@@ -34,18 +34,17 @@ loop-holds c = record { places = omega arith; text = nothing _ _ }
 
 loop-again : tie.Need-loop-i-preserved invariant-loop decreases-loop
 loop-again c =
-    let at = c.before.before.before in
-    let l = at.loop-i in
-    let from = at.args.c in
+    let l = c.loop-i in
+    let from = c.args.c in
     let here = c.entry_at-e.ensures in
     ⊎_elim
     (λ w.
-    let more = message_more from l.i (sym w.1.given.1 ∙ here) in
-    let text = at_most (l.invariant.text then w.4.ensures) (omega arith) in
-    record { places = omega arith; text = rw (more, values_append, w.7, w.8) text })
+    let more = message_more from l.i (sym w.in-Message.is ∙ here) in
+    let text = at_most (l.invariant.text then w.value-next.ensures) (omega arith) in
+    record { places = omega arith; text = rw (more, values_append, w.out-is, w.next-is) text })
     (λ w.
-    let same = marker_more from l.i (sym w.1.given.1 ∙ here) in
-    record { places = omega arith; text = rw (same, w.2, w.3) (at_most l.invariant.text (omega arith)) })
+    let same = marker_more from l.i (sym w.in_default.is ∙ here) in
+    record { places = omega arith; text = rw (same, w.out-is, w.next-is) (at_most l.invariant.text (omega arith)) })
     c.match-e.branch-raw
 
 returns : tie.Need-returns invariant-loop decreases-loop

@@ -36,6 +36,6 @@ returns-2 c = partly_all _ _ _ c.loop-i.invariant (omega arith)
 pub bytes_spec : {M : Type 1} → statement M
 bytes_spec =
     tie.close
-    (tie.spec invariant-loop decreases-loop (λ c. partly_none _ _ _) (λ c. omega arith) (λ c. omega (arith, ltb-true)) add-next
-    (λ c. omega arith) (λ c. omega arith) loop-again (λ c. partly_length _ _ _ c.loop-i.invariant)
-    returns (λ c. partly_length _ _ _ c.loop-i.invariant) returns-2)
+    (tie.spec invariant-loop decreases-loop (λ c. partly_none _ _ _) (λ c. omega arith) (λ c. omega (arith, ltb-true))
+    add-next (λ c. omega arith) (λ c. omega arith) loop-again (λ c. partly_length _ _ _ c.loop-i.invariant) returns
+    (λ c. partly_length _ _ _ c.loop-i.invariant) returns-2)

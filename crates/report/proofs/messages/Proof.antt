@@ -29,18 +29,17 @@ loop-holds c = record { places = omega arith; few = omega arith; messages = refl
 
 loop-again : tie.Need-loop-i-preserved invariant-loop decreases-loop
 loop-again c =
-    let at = c.before.before.before in
-    let l = at.loop-i in
-    let from = at.args.c in
+    let l = c.loop-i in
+    let from = c.args.c in
     let here = c.entry_at-e.ensures in
     ⊎_elim
     (λ w.
-    let more = message_more from l.i (sym w.1.given.1 ∙ here) in
+    let more = message_more from l.i (sym w.in-Message.is ∙ here) in
     let one = ap length more ∙ length-append (bodies_below l.i from) _ in
-    record { places = omega arith; few = omega (arith, w.2); messages = omega (arith, w.2, one) })
+    record { places = omega arith; few = omega (arith, w.n-is); messages = omega (arith, w.n-is, one) })
     (λ w.
-    let same = marker_more from l.i (sym w.1.given.1 ∙ here) in
-    record { places = omega arith; few = omega (arith, w.2); messages = w.2 ∙ rw same l.invariant.messages })
+    let same = marker_more from l.i (sym w.in_default.is ∙ here) in
+    record { places = omega arith; few = omega (arith, w.n-is); messages = w.n-is ∙ rw same l.invariant.messages })
     c.match-e.branch-raw
 
 returns : tie.Need-returns invariant-loop decreases-loop

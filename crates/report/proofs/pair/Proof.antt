@@ -8,10 +8,7 @@ use Rattle.report.proofs.pair.Tie as tie
 
 returns : tie.Need-returns
 returns c =
-    let second = c.before.before in
-    let first = second.before.before.before.before in
-    let name = first.before.before.before.before in
-    rw pair_text (at_most (name.bytes-named.ensures then first.value-next.ensures then second.last.ensures) (omega arith))
+    rw pair_text (at_most (c.bytes-named.ensures then c.value-next.ensures then c.last.ensures) (omega arith))
 
 pub pair_spec : {M : Type 1} → statement M
 pair_spec =

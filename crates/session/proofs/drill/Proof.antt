@@ -10,15 +10,13 @@ use Rattle.session.proofs.Opening.{drill_played}
 use Rattle.session.proofs.drill.Statement.{statement}
 use Rattle.session.proofs.drill.Tie as tie
 
-cells : (c : tie.After-fill) → length c.fill.new.0 ≡ store_cells
+cells : (c : tie.After-fill) → length c.fill.new.store ≡ store_cells
 cells c = ap length c.fill.ensures ∙ start_length
 
 returns : tie.Need-returns
 returns c =
-    let played = c.before.before.before.before in
-    let filled = played.before.before.before in
-    whole_text (drill_played _ filled.fill.ensures played.play.ensures c.changed.ensures)
-    (omega (arith, played.before.play-arg.given))
+    whole_text (drill_played _ c.fill.ensures c.play-at.ensures c.changed.ensures)
+    (omega (arith, c.play-arg-1.given))
 
 pub drill_spec : {M : Type 1} → statement M
 drill_spec =

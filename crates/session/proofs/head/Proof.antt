@@ -10,9 +10,7 @@ use Rattle.session.proofs.head.Tie as tie
 returns : tie.Need-returns
 unfolding head head_text
 returns c =
-    let played = c.before in
-    let start = played.before.before.before.before in
-    whole_text played.play.ensures.text (omega (arith, start.well-formed))
+    whole_text c.play.ensures.text (omega (arith, c.well_formed))
 
 pub head_spec : {M : Type 1} → statement M
 head_spec = tie.close (tie.spec (λ c. search rules) (λ c κs. search rules) returns)

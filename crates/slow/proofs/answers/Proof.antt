@@ -8,32 +8,30 @@ use Rattle.slow.proofs.Listing.{none_answered, one_answered}
 use Rattle.slow.proofs.answers.Statement.{statement}
 use Rattle.slow.proofs.answers.Tie as tie
 
-abbrev invariant-loop : tie.invariant-loop
+abbrev invariant-loop : tie.invariant-loop-i
 invariant-loop topology calls n told₀ i₀ told i = (i ≤ n) × AnsweredSoFar topology calls i told
 
-abbrev decreases-loop : tie.decreases-loop
+abbrev decreases-loop : tie.decreases-loop-i
 decreases-loop topology calls n told₀ i₀ told i = n - i
 
-loop-holds : tie.Need-loop-init invariant-loop decreases-loop
-loop-holds c = (omega arith, rw c.no-answers.ensures (none_answered _ _))
+loop-holds : tie.Need-loop-i-init invariant-loop decreases-loop
+loop-holds c = (omega arith, rw c.no_answers-told.ensures (none_answered _ _))
 
-loop-again : tie.Need-loop-preserved invariant-loop decreases-loop
+loop-again : tie.Need-loop-i-preserved invariant-loop decreases-loop
 loop-again c =
-    let turn = c.before in
-    let s = turn.before.before.before in
-    let l = turn.before.loop in
-    let inside : l.i < 256 = omega (arith, turn.loop-test.true, s.requires.1) in
+    let l = c.loop-i in
+    let inside : l.i < 256 = omega (arith, c.loop-i-test.true, c.requires.1) in
     (omega arith, one_answered inside l.invariant.1 c.next.ensures)
 
 returns : tie.Need-returns invariant-loop decreases-loop
 returns c =
-    let l = c.before.loop in
-    let e : l.i ≡ c.before.before.before.args.n = omega arith in rw e at l.invariant.1
+    let l = c.loop-i in
+    let e : l.i ≡ c.args.n = omega arith in rw e at l.invariant.1
 
 pub answers_spec : {M : Type 1} → statement M
 answers_spec =
     tie.close
     (tie.spec invariant-loop decreases-loop (λ c κs. search rules) loop-holds
-    (λ c κs. let s = c.before.before.before in (s.requires.0, omega (arith, s.requires.1), c.before.loop.invariant.1))
-    (λ c. omega arith) (λ c. omega arith) (λ c. omega (arith, c.before.before.before.before.requires.1))
-    (λ c. omega (arith, c.before.before.before.before.requires.1)) (λ c. omega arith) loop-again returns)
+    (λ c κs. (c.requires.0, omega (arith, c.requires.1), c.loop-i.invariant.1))
+    (λ c. omega arith) (λ c. omega arith) (λ c. omega (arith, c.requires.1))
+    (λ c. omega (arith, c.requires.1)) (λ c. omega arith) loop-again returns)

@@ -14,12 +14,10 @@ use Rattle.slow.proofs.next.Tie as tie
 
 returns : tie.Need-returns
 returns c =
-    let state = c.before.before.before in
-    let s = state.before in
-    let a = s.args in
-    let there = get_d_within a.t2 a.i _ unlisted (omega (arith, s.well-formed.1.0.1.0.1, s.requires.1)) in
-    next_says a.topology s.requires.0 (contents a.t2) a.i _ _ _ state.after.ensures
-    (c.before.call.ensures ∙ ap (λ (l : Listed). unheard (fields_of l.content)) there) c.answer.ensures
+    let a = c.args in
+    let there = get_d_within a.calls a.i _ unlisted (omega (arith, c.well_formed.1.0.1.0.1, c.requires.1)) in
+    next_says a.topology c.requires.0 (contents a.calls) a.i _ _ _ c.after-s.ensures
+    (c.call.ensures ∙ ap (λ (l : Listed). unheard (fields_of l.content)) there) c.answer.ensures
 
 pub next_spec : {M : Type 1} → statement M
 next_spec =

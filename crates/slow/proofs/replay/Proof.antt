@@ -10,10 +10,10 @@ use Rattle.slow.proofs.Listing.{too_long, by_topology, all_answered, as_long}
 use Rattle.slow.proofs.replay.Statement.{statement}
 use Rattle.slow.proofs.replay.Tie as tie
 
-too_many : tie.Need-returns
+too_many : tie.Need-returns-then-count-gt-LISTED
 too_many c =
-    let a = c.before.before.args in
-    record { replays = rw (too_long a.topology a.list c.before.if1.true) c.refused.ensures }
+    let a = c.args in
+    record { replays = rw (too_long a.topology a.list c.if-count-gt-LISTED.true) c.refused.ensures }
 
 -- a list that is not too long is refused as its topology is
 module _ (c : tie.After-check) where
@@ -22,42 +22,40 @@ module _ (c : tie.After-check) where
 
   list_refusal_lem : list_refusal start.args.topology (listed start.args.list) ≡ refusal_of c.check.result
   list_refusal_lem =
-      by_topology start.args.topology start.args.list c.before.if1.false ∙ sym c.check.ensures
+      by_topology start.args.topology start.args.list c.if-count-gt-LISTED.false ∙ sym c.check.ensures
 
-unplanned : tie.Need-returns-2
+unplanned : tie.Need-returns-in-Refuse
 unfolding refusal_of
 unplanned c =
-    let told = c.before.before in
     record {
-      replays = rw (list_refusal_lem told.before.before, told.r.given.1) c.refused2.ensures;
+      replays = rw (list_refusal_lem c.before.before, c.in-Refuse.is) c.refused-in-Refuse.ensures;
     }
 
 -- no refusal
-module _ (c : tie.After-calls) where
+module _ (c : tie.After-calls-1) where
   abbrev check : tie.After-check
-  check = c.before.before.before
+  check = c.before.before
 
   passes : refusal_of check.check.result ≡ none
   unfolding refusal_of
-  passes = rw c.before.enum_told.given.1
+  passes = rw c.in_default.is
 
   good : topology_refusal (start check).args.topology ≡ none
   good = sym check.check.ensures ∙ passes
 
-runs : tie.Need-returns-3
+runs : tie.Need-returns
 unfolding refusal_of listed
 runs c =
-    let told = c.before in
-    let check = check told.before in
+    let check = check c.before.before in
     let a = (start check).args in
     record {
-      replays = rw (list_refusal_lem check, passes told.before)
+      replays = rw (list_refusal_lem check, passes c.before.before)
           (record {
             accepted = refl;
             count = as_long a.topology a.list;
-            answers = all_answered a.topology a.list told.answers.result told.answers.ensures;
-            unused = told.answers.ensures.unused;
-            state = c.after.ensures;
+            answers = all_answered a.topology a.list c.answers-told.result c.answers-told.ensures;
+            unused = c.answers-told.ensures.unused;
+            state = c.after-state.ensures;
           });
     }
 
@@ -65,5 +63,5 @@ pub replay_spec : {M : Type 1} → statement M
 replay_spec =
     tie.close
     (tie.spec (λ c. search rules) (λ c κs. search rules) too_many (λ c κs. search rules) (λ c. search rules)
-    (λ c κs. search rules) unplanned (λ c. search rules) (λ c κs. (good c, (check c).before.if1.false))
-    (λ c κs. (good c.before, (check c.before).before.if1.left, c.answers.ensures)) runs)
+    (λ c κs. search rules) unplanned (λ c. search rules) (λ c κs. (good c, (check c).if-count-gt-LISTED.false))
+    (λ c κs. (good c.before, (check c.before).if-count-gt-LISTED.false, c.answers-told.ensures)) runs)

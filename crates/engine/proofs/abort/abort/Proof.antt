@@ -21,17 +21,16 @@ module _ (s : Spot) (g : GlobalState) (v : Sees g Abort s) where
   unfolding own_checks prior_checks room_checks log_checks first_refusal
   checks = rw v.round
 
-returns : tie.Need-returns
+returns : tie.Need-returns-then-is_idle
 returns c =
-    let t = c.before in
-    quiet_refused _ _ _ (λ g v. checks _ g v ∙ rw (← t.before.is-idle.ensures, t.if1.true))
+    quiet_refused _ _ _ (λ g v. checks _ g v ∙ rw (← c.is_idle.ensures, c.if-is_idle.true))
     c.refused.ensures
 
-returns-2 : tie.Need-returns-2
+returns-2 : tie.Need-returns
 unfolding effect put_back end_round with_round with_progress with_tag with_channel
 returns-2 c =
     quiet_went _ _ refl refl refl refl
-    (λ g v. checks _ g v ∙ rw (← c.before.is-idle.ensures, c.if1.false))
+    (λ g v. checks _ g v ∙ rw (← c.is_idle.ensures, c.if-is_idle.false))
     (λ g v. rw v.round
     (ap (quietly says.done) (same_state refl refl (sym (same_word v)) refl refl refl (sym (same_counts v)))))
 

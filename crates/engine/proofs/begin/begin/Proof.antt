@@ -36,22 +36,21 @@ module _ (s : Spot) (g : GlobalState) (v : Sees g Begin s) where
   unfolding effect next_line clear_writes
   writes = rw (v.round, v.processes, v.channels)
 
-returns : tie.Need-returns
+returns : tie.Need-returns-then-not-is_idle
 returns c =
-    let t = c.before in
     turns_refused _ _ _ _ _
-    (λ g v. not_now_lem _ g v (sym t.before.is-idle.ensures ∙ not-true _ t.if1.true)) c.refused.ensures
+    (λ g v. not_now_lem _ g v (sym c.is_idle.ensures ∙ not-true _ c.if-not-is_idle.true-raw)) c.refused.ensures
 
-abbrev start : tie.Else1 → tie.Start
+abbrev start : tie.Else-not-is_idle → tie.Start
 start d = d.before.before.before.before
 
-idle : (d : tie.Else1) → is_idle (start d).args.s.round.phase ≡ true
-idle d = sym d.before.is-idle.ensures ∙ not-false _ d.if1.false
+idle : (d : tie.Else-not-is_idle) → is_idle (start d).args.s.round.phase ≡ true
+idle d = sym d.is_idle.ensures ∙ not-false _ d.if-not-is_idle.false-raw
 
-returns-2 : tie.Need-returns-2
+returns-2 : tie.Need-returns-then-round
 returns-2 c =
-    turns_refused _ _ _ _ _ (λ g v. last_line_lem _ g v (idle c.before.before.before) c.before.if2.true)
-    c.refused2.ensures
+    turns_refused _ _ _ _ _ (λ g v. last_line_lem _ g v (idle c.before.before.before) c.if-round.true)
+    c.refused-then-round.ensures
 
 clear-requires : tie.Need-clear-requires
 clear-requires c κs =
@@ -61,36 +60,35 @@ clear-requires c κs =
 
 -- once the counts are cleared
 module _ (p : tie.After-clear) where
-  abbrev e : tie.Else2
+  abbrev e : tie.Else-round
   e = p.before.before.before
 
   abbrev s : Spot
   s = (start e.before.before).args.s
 
   may : (g : GlobalState) → Sees g Begin s → first_refusal (own_checks g Begin) ≡ none
-  may g v = passed s g v (idle e.before.before) e.if2.left
+  may g v = passed s g v (idle e.before.before) e.if-round.false
 
   many : length (clear_writes (sized s.processes s.channels) (s.round.line + 1)) ≡ s.processes + s.channels
   many = clear_length (sized s.processes s.channels) (s.round.line + 1)
 
-returns-3 : tie.Need-returns-3
+returns-3 : tie.Need-returns-then-budget-writes
 returns-3 c =
     let p = c.before.before.before.before.before.before in
-    turns_lost _ _ _ _ (may p) _ _ p.clear.ensures.store (writes (s p)) (rw (many p) c.before.if3.true)
+    turns_lost _ _ _ _ (may p) _ _ p.clear.ensures.store (writes (s p)) (rw (many p) c.if-budget-writes.true)
     c.stopped.ensures
 
-returns-4 : tie.Need-returns-4
+returns-4 : tie.Need-returns
 unfolding effect
 returns-4 c =
-    let d = c.before in
-    let p = d.before.before.before.before.before in
-    turns_from _ _ _ _ (may p) _ _ p.clear.ensures.store c.physical-from.ensures (sym (many p))
-    (rw (many p) d.if3.false) (λ g v. same_result refl refl (writes (s p) g v))
+    let p = c.before.before.before.before.before.before in
+    turns_from _ _ _ _ (may p) _ _ p.clear.ensures.store c.physical_from.ensures (sym (many p))
+    (rw (many p) c.if-budget-writes.false) (λ g v. same_result refl refl (writes (s p) g v))
 
 pub begin_spec : {M : Type 1} → statement M
 begin_spec =
     tie.close
     (tie.spec (λ c κs. search rules) (λ c κs. search rules) returns (λ c κs. search rules) returns-2
-    (λ c. omega (arith, c.before.before.if2.false)) clear-requires (λ c. search rules) (λ c. search rules)
+    (λ c. omega (arith, c.if-round.false)) clear-requires (λ c. search rules) (λ c. search rules)
     (λ c. search rules) (λ c κs. search rules) (λ c. search rules) returns-3 (λ c κs. search rules) (λ c. search rules)
     returns-4)

@@ -13,45 +13,41 @@ use Rattle.engine.proofs.begin.clear.Tie as tie
 sized : (c : tie.Start) → Sized present (spots.sized c.args.processes c.args.channels) c.args.store.now
 sized c = record { processes = c.requires.0; channels = c.requires.1; cells = c.requires.2 }
 
-zeros-requires : tie.Need-zeros-requires
+zeros-requires : tie.Need-zeros-left-requires
 zeros-requires c κs = λ (i : ℕ) l.
-    let f = c.before in
-    let b = f.before.before in
+    let b = c.before.before.before in
     omega (
       arith,
-      f.message-count-cell.ensures,
+      c.message_count_cell-messages.ensures,
       message_cell present b.args.line i,
       in_store (sized b) _ _ (count_within (sized b) b.args.line (message_log i) l),
     )
 
 -- past the first run
-abbrev start : tie.After-zeros → tie.Start
+abbrev start : tie.After-zeros-left → tie.Start
 start c = c.before.before.before.before
 
-zeros-requires-2 : tie.Need-zeros-requires-2
+zeros-requires-2 : tie.Need-zeros-requires
 zeros-requires-2 c κs = λ (i : ℕ) l.
-    let f = c.before in
-    let z = f.before.before.before in
+    let z = c.before.before.before.before in
     let b = start z in
     omega (
       arith,
-      f.channel-count-cell.ensures,
+      c.channel_count_cell-first.ensures,
       channel_cell present b.args.line i,
-      spent_length z.zeros.ensures,
+      spent_length z.zeros-left.ensures,
       in_store (sized b) _ _ (count_within (sized b) b.args.line (channel_log i) l),
     )
 
 returns : tie.Need-returns
 unfolding clear_writes
 returns c =
-    let y = c.before.before in
-    let f = y.before.before in
-    let z = f.before.before.before in
+    let z = c.before.before.before.before.before.before.before in
     let a = (start z).args in
     spent_then
-    (messages_cleared a.line a.processes z.before.before.message-count-cell.ensures
-    z.zeros.ensures)
-    (channels_cleared a.line a.channels f.channel-count-cell.ensures y.zeros2.ensures)
+    (messages_cleared a.line a.processes z.message_count_cell-messages.ensures
+    z.zeros-left.ensures)
+    (channels_cleared a.line a.channels c.channel_count_cell-first.ensures c.zeros.ensures)
 
 pub clear_spec : {M : Type 1} → statement M
 clear_spec =

@@ -50,14 +50,13 @@ module _ (s : Spot) (g : GlobalState) (v : Sees g Commit s) where
   unfolding effect commit_writes next_line
   writes = rw v.round
 
-returns : tie.Need-returns
+returns : tie.Need-returns-then-not-may
 returns c =
-    let t = c.before in
     turns_refused _ _ _ _ _
-    (λ g v. checks _ g v ∙ rw (← t.before.before.is-logical.ensures, t.if1.true)) c.refused.ensures
+    (λ g v. checks _ g v ∙ rw (← c.is_logical.ensures, c.if-not-may.true-raw)) c.refused.ensures
 
 -- the round is through
-module _ (d : tie.Else1) where
+module _ (d : tie.Else-not-may) where
   abbrev start : tie.Start
   start = d.before.before.before.before.before
 
@@ -65,32 +64,32 @@ module _ (d : tie.Else1) where
   s = start.args.s
 
   through : may s ≡ true
-  through = rw (← d.before.before.is-logical.ensures) (not-false _ d.if1.left)
+  through = rw (← d.is_logical.ensures) (not-false _ d.if-not-may.false-raw)
 
   passes : Passes s Commit
   passes g v = checks s g v ∙ rw through
 
-add-line : tie.Need-overflow-add-line
+add-line : tie.Need-overflow_add-line
 add-line c =
     let d = c.before in
     let logical = busy (s d).round.phase (and_left _ (s d).through (through d)) in
     omega (arith, next_line_lem (start d).requires.0 logical (omega arith))
 
 -- the number is written
-abbrev unwritten : tie.After-put → tie.Else1
+abbrev unwritten : tie.After-put → tie.Else-not-may
 unwritten p = p.before.before.before
 
-returns-2 : tie.Need-returns-2
+returns-2 : tie.Need-returns-then-budget-lt1
 returns-2 c =
     let p = c.before.before.before.before in
-    turns_lost _ _ _ _ (passes (unwritten p)) _ _ p.put.ensures.store (writes _) c.before.if2.true
+    turns_lost _ _ _ _ (passes (unwritten p)) _ _ p.put.ensures.store (writes _) c.if-budget-lt1.true
     c.stopped.ensures
 
-returns-3 : tie.Need-returns-3
+returns-3 : tie.Need-returns
 unfolding effect commit_writes next_line end_round with_round with_progress put_back
 returns-3 c =
     let p = c.before.before.before in
-    turns_done _ _ _ _ (passes (unwritten p)) _ _ p.put.ensures.store _ refl refl refl c.if2.false
+    turns_done _ _ _ _ (passes (unwritten p)) _ _ p.put.ensures.store _ refl refl refl c.if-budget-lt1.false
     (λ g v. rw v.round
     (same_result refl
     (same_state refl refl (sym (same_word v)) (sym (same_tag v)) (sym (same_channel v)) refl (sym (same_counts v)))

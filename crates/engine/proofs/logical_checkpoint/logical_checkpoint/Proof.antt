@@ -35,18 +35,16 @@ module _ (s : Spot) (g : GlobalState) (v : Sees g (LogicalCheckpoint s.process) 
   unfolding own_checks prior_checks room_checks log_checks first_refusal
   checks = rw (here.holds, decided)
 
-returns : tie.Need-returns
+returns : tie.Need-returns-then-not-may
 returns c =
-    let t = c.before in
     quiet_refused _ _ _
-    (λ g v. checks _ g v ∙ rw (← t.before.before.is-logical.ensures, t.if1.true)) c.refused.ensures
+    (λ g v. checks _ g v ∙ rw (← c.is_logical.ensures, c.if-not-may.true-raw)) c.refused.ensures
 
-returns-2 : tie.Need-returns-2
+returns-2 : tie.Need-returns
 unfolding effect put_back logical_checkpoint with_tag with_progress with_logical
 returns-2 c =
-    let d = c.before.before in
     quiet_went _ _ c.went.ensures refl refl refl
-    (λ g v. checks _ g v ∙ rw (← d.before.before.is-logical.ensures, d.if1.false))
+    (λ g v. checks _ g v ∙ rw (← c.is_logical.ensures, c.if-not-may.false-raw))
     (λ g v. rw v.tag
     (ap (quietly says.done)
     (same_state refl v.round (sym (same_word v)) refl (sym (same_channel v))

@@ -4,16 +4,13 @@ use borrow.Author.Tests.{not-true, not-false}
 use Rattle.engine.proofs.physical_checkpoint.may.Statement.{statement}
 use Rattle.engine.proofs.physical_checkpoint.may.Tie as tie
 
-returns : tie.Need-returns
+returns : tie.Need-returns-then-not-late
 returns c =
-    let t = c.before in
-    rw (not-true t.before.before.args.late t.if1.true, c.is-next.ensures)
+    rw (not-true c.args.late c.if-not-late.true-raw, c.is_next.ensures)
 
-returns-2 : tie.Need-returns-2
+returns-2 : tie.Need-returns
 returns-2 c =
-    let asked = c.before.before in
-    let e = asked.before in
-    rw (not-false e.before.before.args.late e.if1.false, asked.is-logical.ensures)
+    rw (not-false c.args.late c.if-not-late.false-raw, c.is_logical.ensures)
 
 pub may_spec : {M : Type 1} → statement M
 may_spec = tie.close (tie.spec (λ c κs. search rules) returns (λ c κs. search rules) returns-2)

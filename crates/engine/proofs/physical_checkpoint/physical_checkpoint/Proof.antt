@@ -78,101 +78,97 @@ module _ (m : tie.After-may) where
   abbrev s : Spot
   s = start.args.s
 
-  late : m.before.is-late.result ≡ late_at s
-  late = m.before.is-late.ensures
+  late : m.is_late-late.result ≡ late_at s
+  late = m.is_late-late.ensures
 
   told : m.may.result ≡ may_physically s (late_at s)
   told = rw (← late) m.may.ensures
 
   within : s.process < s.processes
-  within = planned s start.pre.0.state start.pre.0.sees
+  within = planned s start.requires.0.state start.requires.0.sees
 
   sized : Sized present (spots.sized s.processes s.channels) start.args.store.now
   sized =
-      let fit = seen_sizes start.pre.0 in
-      record { processes = fit.processes; channels = fit.channels; cells = start.pre.1 }
+      let fit = seen_sizes start.requires.0 in
+      record { processes = fit.processes; channels = fit.channels; cells = start.requires.1 }
 
   below : s.process < process_limit
   below = omega (arith, within, sized.processes)
 
-returns : tie.Need-returns
+returns : tie.Need-returns-then-not-may
 returns c =
-    let t = c.before in
-    turns_refused _ _ _ _ _ (λ g v. checks _ g v ∙ rw (← (told t.before), t.if1.true)) c.refused.ensures
+    turns_refused _ _ _ _ _ (λ g v. checks _ g v ∙ rw (← (told c.before.before), c.if-not-may.true-raw)) c.refused.ensures
 
 -- it may have it
-module _ (e : tie.Else1) where
+module _ (e : tie.Else-not-may) where
   abbrev asked : tie.After-may
   asked = e.before
 
   may : may_physically (s asked) (late_at (s asked)) ≡ true
-  may = sym (told asked) ∙ not-false _ e.if1.left
+  may = sym (told asked) ∙ not-false _ e.if-not-may.false-raw
 
   passes : Passes (s asked) (PhysicalCheckpoint (s asked).process)
   passes g v = checks _ g v ∙ rw may
 
-add-physical-cell : tie.Need-overflow-add-physical-cell
+add-physical-cell : tie.Need-overflow_add-round
 add-physical-cell c =
     let e = c.before.before in
     let x = s (asked e) in
     omega (
       arith,
-      next_line_lem (start (asked e)).pre.0 (busy x.round.phase x.process (late_at x) _ _ (may e)) (omega arith),
+      next_line_lem (start (asked e)).requires.0 (busy x.round.phase x.process (late_at x) _ _ (may e)) (omega arith),
     )
 
 put-requires : tie.Need-put-requires
 put-requires c κs =
-    let cell = c.before in
-    let m = asked cell.before.before.before in
-    rw cell.physical-cell.ensures (in_store (sized m) _ _ (physical_within (sized m) _ _ (within m)))
+    let m = asked c.before.before.before.before in
+    rw c.physical_cell-at.ensures (in_store (sized m) _ _ (physical_within (sized m) _ _ (within m)))
 
 -- the write
 module _ (p : tie.After-put) where
-  abbrev e : tie.Else1
+  abbrev e : tie.Else-not-may
   e = p.before.before.before.before.before
 
   abbrev at : Spot
   at = s (asked e)
 
-  written : p.put.last.0
+  written : p.put.new.store
       ≡ write_all (start (asked e)).args.store.now
       (take (start (asked e)).args.budget (one_write (physical_cell (at.round.line + 1) at.process) at.word))
-  written = rw p.before.before.physical-cell.ensures at p.put.ensures.store
+  written = rw p.physical_cell-at.ensures at p.put.ensures.store
 
-returns-2 : tie.Need-returns-2
+returns-2 : tie.Need-returns-then-budget-lt1
 returns-2 c =
     let p = c.before.before.before.before in
-    turns_lost _ _ _ _ (passes (e p)) _ _ (written p) (λ g v. writes _ g v) c.before.if2.true
+    turns_lost _ _ _ _ (passes (e p)) _ _ (written p) (λ g v. writes _ g v) c.if-budget-lt1.true
     c.stopped.ensures
 
 -- the power lasted
-abbrev lasted : tie.Else2 → tie.After-put
+abbrev lasted : tie.Else-budget-lt1 → tie.After-put
 lasted d = d.before.before.before
 
 -- a late process
-returns-3 : tie.Need-returns-3
+returns-3 : tie.Need-returns-then-late
 unfolding effect put_back record_saved with_progress with_saved
 returns-3 c =
-    let t = c.before in
-    let d = t.before in
+    let d = c.before.before in
     let p = lasted d in
     rw c.went.ensures
-    (turns_done _ _ _ _ (passes (e p)) _ _ (written p) _ refl refl refl d.if2.false
+    (turns_done _ _ _ _ (passes (e p)) _ _ (written p) _ refl refl refl d.if-budget-lt1.false
     (λ g v. same_result refl
-    (next _ g v (sym (late (asked (e p))) ∙ t.if3.true)
+    (next _ g v (sym (late (asked (e p))) ∙ c.if-late.true)
     ∙ same_state refl v.round (sym (same_word v)) (sym (same_tag v)) (sym (same_channel v))
     (same_flags (sym (same_logical v)) refl (sym (same_closed v)) (sym (same_sent v))) (sym (same_counts v)))
     (writes _ g v)))
 
 -- an early one
-returns-4 : tie.Need-returns-4
+returns-4 : tie.Need-returns
 unfolding effect with_counts
 returns-4 c =
-    let f = c.before.before in
-    let d = f.before in
+    let d = c.before.before.before in
     let p = lasted d in
-    turns_from _ _ _ _ (passes (e p)) _ _ (written p) c.physical-from.ensures refl d.if2.false
-    (λ g v. same_result refl (next _ g v (sym (late (asked (e p))) ∙ f.if3.false)) (writes _ g v))
+    turns_from _ _ _ _ (passes (e p)) _ _ (written p) c.physical_from.ensures refl d.if-budget-lt1.false
+    (λ g v. same_result refl (next _ g v (sym (late (asked (e p))) ∙ c.if-late.false)) (writes _ g v))
 
 pub physical_checkpoint_spec : {M : Type 1} → statement M
 physical_checkpoint_spec =

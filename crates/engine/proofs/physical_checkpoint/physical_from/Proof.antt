@@ -34,19 +34,18 @@ goes_on from g {n} {late} a b e =
 returns : tie.Need-returns
 unfolding in_phase with_round with_progress with_counts put_back
 returns c =
-    let f = c.before in
-    let a = f.before.before.args in
-    let next : Phase = f.phase-from.result in
+    let a = c.args in
+    let next : Phase = c.phase_from-next.result in
     record {
       went = refl;
       outcome = refl;
       made = refl;
       state =
           λ x g v. goes_on a.from (with_counts (cond a.counts no_counts g.counts) g) v.processes v.late
-          f.phase-from.ensures
+          c.phase_from-next.ensures
           ∙ same_state refl (ap (λ (r : Round). record { line = r.line; phase = next }) v.round) (sym (same_word v))
           (sym (same_tag v)) (sym (same_channel v))
-          (ap₂ (λ (b : Bool) (y : Progress). cond b no_progress y) (sym c.is-logical.ensures)
+          (ap₂ (λ (b : Bool) (y : Progress). cond b no_progress y) (sym c.is_logical.ensures)
           (sym (same_progress v)))
           (ap (cond a.counts no_counts) (sym (same_counts v)));
     }

@@ -4,21 +4,21 @@ use Rattle.engine.proofs.Receptions.{a_bit, toggled}
 use Rattle.engine.proofs.receive.after.Statement.{statement}
 use Rattle.engine.proofs.receive.after.Tie as tie
 
-abbrev start : tie.After-struct-known8 → tie.Start
+abbrev start : tie.After-struct_known-8-1 → tie.Start
 start c = c.before.before.before.before.before.before.before.before
 
-add-in-channel : tie.Need-overflow-add-s
+add-in-channel : tie.Need-overflow_add-s
 add-in-channel c = omega (arith, a_bit (start c).args.x.channel_log)
 
-add-in-messages : tie.Need-overflow-add-s-2
+add-in-messages : tie.Need-overflow_add-s-2
 add-in-messages c = omega (arith, a_bit (start c.before.before).args.x.message_log)
 
 returns : tie.Need-returns
 returns c =
-    let a = (start c.before.before.before.before).args in
+    let a = c.args in
     record {
       round = refl;
-      held = c.before.pop.ensures;
+      held = c.pop-rest.ensures;
       word = c.word_after.ensures;
       tag = toggled a.s.tag a.x.logical_first;
       logical = refl;

@@ -11,17 +11,17 @@ use Rattle.engine.proofs.receive.receive.Statement.{statement}
 use Rattle.engine.proofs.receive.receive.Tie as tie
 
 -- the way through: the reaction is decided, no log is full, the logs are written
-abbrev reacted : tie.Else2 → tie.After-react
+abbrev reacted : tie.Else-x-s → tie.After-react-x
 reacted e = e.before.before.before
 
-abbrev roomy : tie.After-log → tie.Else3
+abbrev roomy : tie.After-log-needed → tie.Else-full
 roomy l = l.before.before.before
 
-abbrev logged : tie.Else4 → tie.After-log
+abbrev logged : tie.Else-budget-needed → tie.After-log-needed
 logged e = e.before.before.before
 
-module _ (p : tie.After-react) where
-  abbrev there : tie.Else1
+module _ (p : tie.After-react-x) where
+  abbrev there : tie.Else-length-eq0
   there = p.before.before.before.before
 
   abbrev start : tie.Start
@@ -31,89 +31,87 @@ module _ (p : tie.After-react) where
   s = start.args.s
 
   abbrev entry : Entry
-  entry = p.before.before.before.entry_at.result
+  entry = p.entry_at-e.result
 
   fits : Fits s
-  fits = receive_fits s start.pre.0
+  fits = receive_fits s start.requires.0
 
-  decided : Decided s entry p.react.result
+  decided : Decided s entry p.react-x.result
   decided =
       record {
-        there = omega (arith, there.if1.left, there.before.length.ensures, entries_count s.held);
-        entry = p.before.before.before.entry_at.ensures;
-        reaction = rw p.before.receiver.ensures at p.react.ensures;
+        there = omega (arith, there.if-length-eq0.false, there.length.ensures, entries_count s.held);
+        entry = p.entry_at-e.ensures;
+        reaction = rw p.receiver.ensures at p.react-x.ensures;
       }
 
-channel-empty : tie.Need-returns
+channel-empty : tie.Need-returns-then-length-eq0
 channel-empty c =
-    let t = c.before in
-    turns_refused _ _ _ _ _ (λ g v. empty _ g v (sym t.before.length.ensures ∙ t.if1.true))
+    turns_refused _ _ _ _ _ (λ g v. empty _ g v (sym c.length.ensures ∙ c.if-length-eq0.true))
     c.refused.ensures
 
-marker-on-closed : tie.Need-returns-2
+marker-on-closed : tie.Need-returns-then-x-s
 marker-on-closed c =
     let p = c.before.before.before.before in
-    let again : (p.react.result.closes && (s p).closed) ≡ true = c.before.if2.true in
-    turns_refused _ _ _ _ _ (λ g v. checks (decided p) g v ∙ rw again) c.refused2.ensures
+    let again : (p.react-x.result.closes && (s p).closed) ≡ true = c.if-x-s.true in
+    turns_refused _ _ _ _ _ (λ g v. checks (decided p) g v ∙ rw again) c.refused-then-x-s.ensures
 
-log-full : tie.Need-returns-3
+log-full : tie.Need-returns-then-full
 log-full c =
-    let f = c.before.before in
     turns_refused _ _ _ _ _
-    (λ g v. checks (decided (reacted f.before)) g v
-    ∙ rw (f.before.if2.false, sym f.full.ensures ∙ c.before.if3.true))
-    c.refused3.ensures
+    (λ g v. checks (decided (reacted c.before.before.before)) g v
+    ∙ rw (c.if-x-s.false, sym c.full.ensures ∙ c.if-full.true))
+    c.refused-then-full.ensures
 
 -- nothing turns it down
-module _ (e : tie.Else3) where
-  abbrev p : tie.After-react
+module _ (e : tie.Else-full) where
+  abbrev p : tie.After-react-x
   p = reacted e.before.before
 
-  room : full_for p.react.result (s p) ≡ false
-  room = sym e.before.full.ensures ∙ e.if3.left
+  room : full_for p.react-x.result (s p) ≡ false
+  room = sym e.full.ensures ∙ e.if-full.false
 
   may : Passes (s p) (Receive (s p).channel)
-  may g v = checks (decided p) g v ∙ rw (e.before.before.if2.left, room)
+  may g v = checks (decided p) g v ∙ rw (e.if-x-s.false, room)
 
-log-requires : tie.Need-log-requires
-log-requires c κs = let e = c.before.before in (fits (p e), room e, (start (p e)).pre.1)
+log-requires : tie.Need-log-needed-requires
+log-requires c κs = let e = c.before.before in (fits (p e), room e, (start (p e)).requires.1)
 
-power-lost : tie.Need-returns-4
+power-lost : tie.Need-returns-then-budget-needed
 power-lost c =
     let l = c.before.before.before.before in
     let e = roomy l in
-    turns_lost _ _ _ _ (may e) _ _ l.log.ensures.store
-    (λ g v. writes (decided (p e)) g v l.before.before.receipt.ensures)
-    (rw l.log.ensures.needed at c.before.if4.true) c.stopped.ensures
+    turns_lost _ _ _ _ (may e) _ _ l.log-needed.ensures.store
+    (λ g v. writes (decided (p e)) g v l.receipt.ensures)
+    (rw l.log-needed.ensures.needed at c.if-budget-needed.true) c.stopped.ensures
 
 after-requires : tie.Need-after-requires
 after-requires c κs = fits (p (roomy (logged c.before)))
 
-received : tie.Need-returns-5
+received : tie.Need-returns
 received c =
     let lasted = c.before.before.before in
     let l = logged lasted in
     let e = roomy l in
-    receive_went (decided (p e)) (may e) l.before.before.receipt.ensures l.log.ensures lasted.if4.false
-    c.before.before.outcome.ensures c.before.after.ensures c.went.ensures
+    receive_went (decided (p e)) (may e) l.receipt.ensures l.log-needed.ensures lasted.if-budget-needed.false
+    c.outcome.ensures c.after.ensures c.went.ensures
 
 -- every need, in the order of the code
 pub receive_spec : {M : Type 1} → statement M
 receive_spec =
     let length-requires : tie.Need-length-requires = λ c κs. search rules in
     let refuse-empty : tie.Need-refused-requires = λ c κs. search rules in
-    let entry-at-requires : tie.Need-entry-at-requires = λ c κs. search rules in
+    let entry-at-requires : tie.Need-entry_at-e-requires = λ c κs. search rules in
     let receiver-requires : tie.Need-receiver-requires = λ c κs. search rules in
-    let react-requires : tie.Need-react-requires = λ c κs. search rules in
-    let refuse-closed : tie.Need-refused-requires-2 = λ c κs. search rules in
+    let react-requires : tie.Need-react-x-requires = λ c κs. search rules in
+    let refuse-closed : tie.Need-refused-requires-then-x-s = λ c κs. search rules in
     let full-requires : tie.Need-full-requires = λ c κs. search rules in
-    let refuse-full : tie.Need-refused-requires-3 = λ c κs. search rules in
+    let refuse-full : tie.Need-refused-requires-then-full = λ c κs. search rules in
     let receipt-requires : tie.Need-receipt-requires = λ c κs. search rules in
     let stopped-requires : tie.Need-stopped-requires = λ c κs. search rules in
-    let length_cut : tie.Need-same-length = λ c. search rules in
+    let length_cut : tie.Need-shape_of-store-then-budget-needed = λ c. search rules in
     let outcome-requires : tie.Need-outcome-requires = λ c κs. search rules in
     let went-requires : tie.Need-went-requires = λ c κs. search rules in
-    let length-received : tie.Need-same-length-2 = λ c. search rules in
+    let length-received : tie.Need-shape_of-store = λ c. search rules in
     tie.close
     (tie.spec length-requires refuse-empty channel-empty entry-at-requires receiver-requires react-requires
     refuse-closed marker-on-closed full-requires refuse-full log-full receipt-requires log-requires stopped-requires

@@ -30,28 +30,26 @@ module _ (s : Spot) (b : ℕ) (g : GlobalState) (v : Sees g (Send s.channel b) s
   unfolding own_checks prior_checks room_checks log_checks first_refusal
   own k = rw (here.holds, v.held, k)
 
-returns : tie.Need-returns
+returns : tie.Need-returns-then-no_room_for_message
 returns c =
-    let asked = c.before.before in
-    quiet_refused _ _ _ (λ g v. own _ _ g v (sym asked.no-room-for-message.ensures ∙ c.before.if1.true))
+    quiet_refused _ _ _ (λ g v. own _ _ g v (sym c.no_room_for_message.ensures ∙ c.if-no_room_for_message.true))
     c.refused.ensures
 
 -- there is room
-room : (c : tie.Else1) → no_room_for_message (entries c.before.before.before.args.s.held) ≡ false
-room c = sym c.before.no-room-for-message.ensures ∙ c.if1.false
+room : (c : tie.Else-no_room_for_message) → no_room_for_message (entries c.args.s.held) ≡ false
+room c = sym c.no_room_for_message.ensures ∙ c.if-no_room_for_message.false
 
-returns-2 : tie.Need-returns-2
+returns-2 : tie.Need-returns
 unfolding effect put_back set_entries with_channel
 returns-2 c =
-    let pushed = c.before.before in
-    let s = pushed.before.before.before.before.args.s in
-    let b = pushed.before.before.before.before.args.body in
-    let put : entries pushed.push.result ≡ entries s.held ++ (Message b s.tag ∷ []) =
-    pushed.push.ensures ∙ message_pushed _ _ (room pushed.before) in
-    let told : c.before.room.result ≡ room_left (entries pushed.push.result) = c.before.room.ensures in
-    quiet_went _ _ c.went.ensures refl refl refl (λ g v. own s b g v (room pushed.before))
+    let s = c.args.s in
+    let b = c.args.body in
+    let put : entries c.push-after.result ≡ entries s.held ++ (Message b s.tag ∷ []) =
+    c.push-after.ensures ∙ message_pushed _ _ (room c.before.before.before) in
+    let told : c.room.result ≡ room_left (entries c.push-after.result) = c.room.ensures in
+    quiet_went _ _ c.went.ensures refl refl refl (λ g v. own s b g v (room c.before.before.before))
     (λ g v. rw ((here s b g v).process, v.held, v.tag, ← put, ← told)
-    (ap (quietly (says.sent c.before.room.result))
+    (ap (quietly (says.sent c.room.result))
     (same_state refl v.round (sym (same_word v)) (sym (same_tag v)) refl (sym (same_progress v))
     (sym (same_counts v)))))
 

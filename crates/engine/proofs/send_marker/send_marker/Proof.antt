@@ -44,39 +44,36 @@ module _ (s : Spot) (g : GlobalState) (v : Sees g (SendMarker s.channel) s) wher
   unfolding own_checks prior_checks room_checks log_checks first_refusal
   own e k = rw (here.holds, decided, e, v.held, k)
 
-returns : tie.Need-returns
+returns : tie.Need-returns-then-not-may
 returns c =
-    let t = c.before in
     quiet_refused _ _ _
-    (λ g v. not_now_lem _ g v (rw (← t.before.before.before.is-logical.ensures) (not-true _ t.if1.true)))
+    (λ g v. not_now_lem _ g v (rw (← c.is_logical.ensures) (not-true _ c.if-not-may.true-raw)))
     c.refused.ensures
 
 -- it may be sent
-abbrev spot : tie.Else1 → Spot
-spot d = d.before.before.before.before.before.args.s
+abbrev spot : tie.Else-not-may → Spot
+spot d = d.args.s
 
-allowed : (d : tie.Else1) → may (spot d) ≡ true
-allowed d = rw (← d.before.before.before.is-logical.ensures) (not-false _ d.if1.false)
+allowed : (d : tie.Else-not-may) → may (spot d) ≡ true
+allowed d = rw (← d.is_logical.ensures) (not-false _ d.if-not-may.false-raw)
 
-returns-2 : tie.Need-returns-2
+returns-2 : tie.Need-returns-then-no_room_for_marker
 returns-2 c =
-    let asked = c.before.before in
     quiet_refused _ _ _
-    (λ g v. own _ g v (allowed asked.before.before)
-    (sym asked.no-room-for-marker.ensures ∙ c.before.if2.true))
-    c.refused2.ensures
+    (λ g v. own _ g v (allowed c.before.before.before.before)
+    (sym c.no_room_for_marker.ensures ∙ c.if-no_room_for_marker.true))
+    c.refused-then-no_room_for_marker.ensures
 
 -- and there is room
-room : (d : tie.Else2) → no_room_for_marker (entries (spot d.before.before.before).held) ≡ false
-room d = sym d.before.no-room-for-marker.ensures ∙ d.if2.false
+room : (d : tie.Else-no_room_for_marker) → no_room_for_marker (entries (spot d.before.before.before).held) ≡ false
+room d = sym d.no_room_for_marker.ensures ∙ d.if-no_room_for_marker.false
 
-returns-3 : tie.Need-returns-3
+returns-3 : tie.Need-returns
 unfolding effect put_back set_entries record_sent with_channel with_progress with_sent
 returns-3 c =
-    let pushed = c.before in
     quiet_went _ _ c.went.ensures refl refl refl
-    (λ g v. own _ g v (allowed pushed.before.before.before.before) (room pushed.before))
-    (λ g v. rw (v.held, ← (pushed.push.ensures ∙ marker_pushed _ _ (room pushed.before)))
+    (λ g v. own _ g v (allowed c.before.before.before.before.before) (room c.before.before))
+    (λ g v. rw (v.held, ← (c.push-after.ensures ∙ marker_pushed _ _ (room c.before.before)))
     (ap (quietly says.done)
     (same_state refl v.round (sym (same_word v)) (sym (same_tag v)) refl
     (same_flags (sym (same_logical v)) (sym (same_saved v)) (sym (same_closed v)) refl) (sym (same_counts v)))))

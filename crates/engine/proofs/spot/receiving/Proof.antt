@@ -4,13 +4,13 @@ use Rattle.model.specs.Topology.{receiver, has_channel}
 use Rattle.engine.proofs.spot.receiving.Statement.{statement}
 use Rattle.engine.proofs.spot.receiving.Tie as tie
 
-returns : tie.Need-returns
+returns : tie.Need-returns-then-t-channel
 unfolding has_channel
-returns c = rw (le-ltb _ _ c.if1.true)
+returns c = rw (le-ltb _ _ c.if-t-channel.true)
 
-returns-2 : tie.Need-returns-2
+returns-2 : tie.Need-returns
 unfolding has_channel receiver
-returns-2 c = rw (lt-ltb _ _ c.before.if1.false)
+returns-2 c = rw (lt-ltb _ _ c.if-t-channel.false)
 
 pub receiving_spec : {M : Type 1} → statement M
 receiving_spec = tie.close (tie.spec returns (λ c. search rules) returns-2)

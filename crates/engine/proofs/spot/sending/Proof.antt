@@ -4,13 +4,13 @@ use Rattle.model.specs.Topology.{sender, has_channel}
 use Rattle.engine.proofs.spot.sending.Statement.{statement}
 use Rattle.engine.proofs.spot.sending.Tie as tie
 
-returns : tie.Need-returns
+returns : tie.Need-returns-then-t-channel
 unfolding has_channel
-returns c = rw (le-ltb _ _ c.if1.true)
+returns c = rw (le-ltb _ _ c.if-t-channel.true)
 
-returns-2 : tie.Need-returns-2
+returns-2 : tie.Need-returns
 unfolding has_channel sender
-returns-2 c = rw (lt-ltb _ _ c.before.if1.false)
+returns-2 c = rw (lt-ltb _ _ c.if-t-channel.false)
 
 pub sending_spec : {M : Type 1} → statement M
 sending_spec = tie.close (tie.spec returns (λ c. search rules) returns-2)

@@ -10,10 +10,9 @@ use Rattle.engine.specs.Spots.{is_commit}
 use Rattle.engine.proofs.spot.through.Statement.{statement}
 use Rattle.engine.proofs.spot.through.Tie as tie
 
-returns : tie.Need-returns
+returns : tie.Need-returns-in-Commit
 returns c =
-    let asked = c.before in
-    rw (asked.before.enum_told.given.1, asked.all-checkpointed.ensures, c.All-set.ensures)
+    rw (c.in-Commit.is, c.all_checkpointed.ensures, c.all_set.ensures)
 
 -- the other seven
 not_asked : (through : Bool) (x : Step) → OneOf (0 ∷ 1 ∷ 2 ∷ 3 ∷ 4 ∷ 5 ∷ 7 ∷ []) (tag_of the_type x)
@@ -27,8 +26,8 @@ not_asked t (SendMarker c) h = refl
 not_asked t Commit h = absurd (miss (0 ∷ 1 ∷ 2 ∷ 3 ∷ 4 ∷ 5 ∷ 7 ∷ []) 6 tt h)
 not_asked t Abort h = refl
 
-returns-2 : tie.Need-returns-2
-returns-2 c = not_asked _ c.before.before.before.before.args.step c.match.keys2
+returns-2 : tie.Need-returns
+returns-2 c = not_asked _ c.args.step c.in_default.in_default-own.keys2
 
 pub through_spec : {M : Type 1} → statement M
 through_spec =

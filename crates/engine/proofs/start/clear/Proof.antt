@@ -12,29 +12,23 @@ use Rattle.model.specs.Layout.{present}
 sized : (c : tie.Start) → Sized present c.args.topology c.args.store.now
 sized c = sized_start present c.args.topology c.args.store.now c.requires
 
-zeros-requires : tie.Need-zeros-requires
+zeros-requires : tie.Need-zeros-rest-requires
 unfolding form.count_cell form.channel_record form.slot
 zeros-requires c κs i l =
-    let k = c.before.before.before.before.before in
-    let s = sized k.before.before.before in
-    let at = c.before.before.channel-count-cell.ensures in
-    omega (arith, spent_length k.clear-processes.ensures)
+    let s = sized c.before.before.before.before.before.before.before.before in
+    let at = c.channel_count_cell-first.ensures in
+    omega (arith, spent_length c.clear_processes-left.ensures)
 
 put-requires : tie.Need-put-requires
 put-requires c κs =
-    let z = c.before.before.before in
-    let k = z.before.before.before.before.before.before in
-    let s = sized k.before.before.before in
-    omega (arith, spent_length k.clear-processes.ensures, spent_length z.zeros.ensures)
+    let s = sized c.before.before.before.before.before.before.before.before.before.before.before.before in
+    omega (arith, spent_length c.clear_processes-left.ensures, spent_length c.zeros-rest.ensures)
 
 returns : tie.Need-returns
 returns c =
-    let p = c.before.before in
-    let z = p.before.before.before.before in
-    let k = z.before.before.before.before.before.before in
-    let s = sized k.before.before.before in
-    all_cleared k.before.before.before.args.topology z.before.before.before.channel-count-cell.ensures
-    k.clear-processes.ensures z.zeros.ensures p.put.ensures (omega arith)
+    let s = sized c.before.before.before.before.before.before.before.before.before.before.before.before.before.before.before in
+    all_cleared c.args.topology c.channel_count_cell-first.ensures
+    c.clear_processes-left.ensures c.zeros-rest.ensures c.put.ensures (omega arith)
 
 pub clear_spec : {M : Type 1} → statement M
 clear_spec =

@@ -10,34 +10,34 @@ use Rattle.engine.proofs.Clearing.{two_zeros}
 use Rattle.engine.proofs.start.clear_processes.Statement.{statement}
 use Rattle.engine.proofs.start.clear_processes.Tie as tie
 
-abbrev invariant-loop : tie.invariant-loop
+abbrev invariant-loop : tie.invariant-loop-p
 invariant-loop store₀ budget n left₀ p₀ store left p = (p ≤ n) × Spent store₀ budget (concat_below p clear_process) store left
 
-abbrev decreases-loop : tie.decreases-loop
+abbrev decreases-loop : tie.decreases-loop-p
 decreases-loop store₀ budget n left₀ p₀ store left p = n - p
 
-loop-holds : tie.Need-loop-init invariant-loop decreases-loop
+loop-holds : tie.Need-loop-p-init invariant-loop decreases-loop
 unfolding concat_below
 loop-holds c = (omega arith, none_spent _ _)
 
-zeros-requires : tie.Need-zeros-requires invariant-loop decreases-loop
+zeros-requires : tie.Need-zeros-left-requires invariant-loop decreases-loop
 unfolding form.physical_cell form.process_record form.slot
 zeros-requires c κs i l =
-    omega (arith, c.physical-cell.ensures, spent_length c.before.before.before.loop.invariant.1)
+    omega (arith, c.physical_cell.ensures, spent_length c.loop-p.invariant.1)
 
-loop-again : tie.Need-loop-preserved invariant-loop decreases-loop
+loop-again : tie.Need-loop-p-preserved invariant-loop decreases-loop
 loop-again c =
-    let l = c.before.before.before.before.before.before.loop in
-    let at = c.before.before.before.physical-cell in (
+    let l = c.loop-p in
+    let at = c.physical_cell in (
       omega arith,
       rw (concat_more l.p clear_process, ← two_zeros l.p at.result at.ensures)
-          (spent_then l.invariant.1 c.before.before.zeros.ensures),
+          (spent_then l.invariant.1 c.zeros-left.ensures),
     )
 
 returns : tie.Need-returns invariant-loop decreases-loop
 returns c =
-    let l = c.before.loop in
-    let e : l.p ≡ c.before.before.before.args.n = omega arith in
+    let l = c.loop-p in
+    let e : l.p ≡ c.args.n = omega arith in
     rw e at l.invariant.1
 
 pub clear_processes_spec : {M : Type 1} → statement M
@@ -52,5 +52,5 @@ clear_processes_spec =
     (λ c. search rules)
     (λ c. search rules)
     loop-again
-    (λ c. spent_length c.before.loop.invariant.1)
+    (λ c. spent_length c.loop-p.invariant.1)
     returns)

@@ -8,24 +8,22 @@ use Rattle.engine.proofs.start.initialize.Statement.{statement}
 use Rattle.engine.proofs.start.initialize.Tie as tie
 
 -- past the checks there is no refusal
-ready : (c : tie.After-enum-told)
-    → let a = c.before.before.before.before.args in
+ready : (c : tie.In-Pass)
+    → let a = c.args in
     initialize_refusal a.topology (length a.store.now) ≡ none
 unfolding refusal_of
-ready c = sym c.before.before.admit.ensures ∙ ap refusal_of c.enum_told.given.1
+ready c = sym c.admit.ensures ∙ ap refusal_of c.in-Pass.is
 
-returns : tie.Need-returns
+returns : tie.Need-returns-in-Pass
 unfolding initialize
 returns c =
-    let k = c.before.before.before in
-    rw k.clear.ensures (starts_ready _ _ _ _ (ready k.before.before) refl c.initial.ensures)
+    rw c.clear.ensures (starts_ready _ _ _ _ (ready c.before.before.before.before.before) refl c.initial-state.ensures)
 
-returns-2 : tie.Need-returns-2
+returns-2 : tie.Need-returns-in-Refuse
 unfolding initialize refusal_of
 returns-2 c =
-    let r = c.before.before in
     starts_refused _ _ _ c.refused.result _
-    (sym r.before.before.admit.ensures ∙ ap refusal_of r.r.given.1)
+    (sym c.admit.ensures ∙ ap refusal_of c.in-Refuse.is)
     c.refused.ensures.0 c.refused.ensures.1
 
 pub initialize_spec : {M : Type 1} → statement M

@@ -5,13 +5,13 @@ use Rattle.engine.proofs.Stores.{one_spent}
 use Rattle.engine.proofs.store.put.Statement.{statement}
 use Rattle.engine.proofs.store.put.Tie as tie
 
-returns : tie.Need-returns
+returns : tie.Need-returns-then-budget-eq0
 unfolding write_all
-returns c = rw c.if1.true (record { store = refl; left = refl })
+returns c = rw c.if-budget-eq0.true (record { store = refl; left = refl })
 
-returns-2 : tie.Need-returns-2
+returns-2 : tie.Need-returns
 unfolding write
-returns-2 c = one_spent _ _ _ (omega (arith, c.if1.false))
+returns-2 c = one_spent _ _ _ (omega (arith, c.if-budget-eq0.false))
 
 pub put_spec : {M : Type 1} → statement M
 put_spec =

@@ -21,11 +21,11 @@ abbrev writes : Form → Form → List ℕ → ℕ → List Write
 writes F G source c =
     let k : ℕ = stored_line source in bodies_writes (count_cell G k (channel_log c)) (logged F source k c)
 
-abbrev invariant-loop : tie.invariant-loop
+abbrev invariant-loop : tie.invariant-loop-c
 invariant-loop topology from source to target₀ line c₀ target c =
     Wrote target₀ (writes (form_of from) (form_of to) source) topology.channels target c
 
-abbrev decreases-loop : tie.decreases-loop
+abbrev decreases-loop : tie.decreases-loop-c
 decreases-loop topology from source to target₀ line c₀ target c = topology.channels - c
 
 -- nothing was refused
@@ -34,44 +34,43 @@ known : (c : tie.Start invariant-loop decreases-loop)
 known c = let a = c.args in carriable _ _ a.topology a.source.now a.target.now c.requires
 
 -- where a turn begins
-abbrev start : tie.Then1 invariant-loop decreases-loop → tie.Start invariant-loop decreases-loop
+abbrev start : tie.In-loop-c invariant-loop decreases-loop → tie.Start invariant-loop decreases-loop
 start t = t.before.before.before.before.before.before
 
 copy-requires : tie.Need-copy-requires invariant-loop decreases-loop
 unfolding stored_line cell
 copy-requires x κs =
     let test = x.before.before.before in
-    let l = test.before.before.loop in
+    let l = test.loop-c in
     let a = (start test).args in
     let r = known (start test) in
     let log = channel_log l.c in
     let line = stored_line a.source.now in
-    let fits = r.readable.fits log test.if1.true in
+    let fits = r.readable.fits log test.loop-c-test.true in
     let end : ℕ = count_cell (form_of a.to) line log + cell a.source.now (count_cell (form_of a.from) line log) in
     let last = in_store r.sized line end
-    (log_within r.sized line log end test.if1.true (record { from = omega arith; to = omega (arith, fits) })) in
-    rw (x.before.before.channel-count-cell.ensures.is, x.channel-count-cell2.ensures.is)
+    (log_within r.sized line log end test.loop-c-test.true (record { from = omega arith; to = omega (arith, fits) })) in
+    rw (x.channel_count_cell-at.ensures.is, x.channel_count_cell.ensures.is)
     (record {
       count = fits;
-      lies = omega (arith, last_in_store r.readable log test.if1.true);
+      lies = omega (arith, last_in_store r.readable log test.loop-c-test.true);
       room = omega (arith, last, wrote_length l.invariant);
     })
 
-loop-again : tie.Need-loop-preserved invariant-loop decreases-loop
+loop-again : tie.Need-loop-c-preserved invariant-loop decreases-loop
 unfolding stored_line cell logged bodies_by entries_by
 loop-again c =
-    let x = c.before.before.before in
-    let test = x.before.before.before in
-    let l = test.before.before.loop in
+    let test = c.before.before.before.before.before.before in
+    let l = test.loop-c in
     let source = (start test).args.source.now in
-    one_wrote l.invariant test.if1.true
-    (c.before.before.copy.ensures
+    one_wrote l.invariant test.loop-c-test.true
+    (c.copy.ensures
     ∙ ap₂ (λ (to from : ℕ). write_all l.target (bodies_writes to (bodies_at source from)))
-    x.channel-count-cell2.ensures.is x.before.before.channel-count-cell.ensures.is)
+    c.channel_count_cell.ensures.is c.channel_count_cell-at.ensures.is)
 
 returns : tie.Need-returns invariant-loop decreases-loop
 unfolding channels_writes
-returns c = all_wrote c.before.before.loop.invariant c.if1.false
+returns c = all_wrote c.loop-c.invariant c.loop-c-test.false
 
 pub channels_spec : {M : Type 1} → statement M
 channels_spec =
@@ -85,5 +84,5 @@ channels_spec =
     copy-requires
     (λ c. search rules) (λ c. omega arith)
     loop-again
-    (λ c. wrote_length c.before.before.loop.invariant)
+    (λ c. wrote_length c.loop-c.invariant)
     returns)

@@ -9,36 +9,36 @@ use Rattle.migration.proofs.Copying.{Copied, copied_more, copied_all, copied_len
 use Rattle.migration.proofs.destination.copy.Statement.{statement}
 use Rattle.migration.proofs.destination.copy.Tie as tie
 
-abbrev invariant-loop : tie.invariant-loop
+abbrev invariant-loop : tie.invariant-loop-i
 invariant-loop source from target₀ to n i₀ target i = Copied source from target₀ to target i
 
-abbrev decreases-loop : tie.decreases-loop
+abbrev decreases-loop : tie.decreases-loop-i
 decreases-loop source from target₀ to n i₀ target i = n - i
 
-loop-holds : tie.Need-loop-init invariant-loop decreases-loop
+loop-holds : tie.Need-loop-i-init invariant-loop decreases-loop
 unfolding cell_writes write_all
 loop-holds c = record { within = omega arith; bodies = refl }
 
 -- the target's cells of this turn, and its count's
-body_in_lem : (c : tie.After-shared-slice-known2 invariant-loop decreases-loop)
-    → let a = c.before.before.before.before.args in
-    a.to + 1 + c.before.before.loop.i < length c.before.before.loop.target
+body_in_lem : (c : tie.After-shared_slice_known-in-loop-i-1 invariant-loop decreases-loop)
+    → let a = c.args in
+    a.to + 1 + c.loop-i.i < length c.loop-i.target
 unfolding cell
 body_in_lem c =
-    let l = c.before.before.loop in
-    omega (arith, copied_length l.invariant, c.before.loop-test.true, c.before.before.before.before.requires.room)
+    let l = c.loop-i in
+    omega (arith, copied_length l.invariant, c.loop-i-test.true, c.requires.room)
 
-count_in : (c : tie.After-loop invariant-loop decreases-loop)
-    → c.before.before.before.args.to < length c.before.loop.target
-count_in c = omega (arith, copied_length c.before.loop.invariant, c.before.before.before.requires.room)
+count_in : (c : tie.After-loop-i invariant-loop decreases-loop)
+    → c.args.to < length c.loop-i.target
+count_in c = omega (arith, copied_length c.loop-i.invariant, c.requires.room)
 
-loop-again : tie.Need-loop-preserved invariant-loop decreases-loop
+loop-again : tie.Need-loop-i-preserved invariant-loop decreases-loop
 unfolding cell
-loop-again c = copied_more c.before.before.loop.invariant c.before.loop-test.true
+loop-again c = copied_more c.loop-i.invariant c.loop-i-test.true
 
 returns : tie.Need-returns invariant-loop decreases-loop
 unfolding cell
-returns c = copied_all c.before.loop.invariant c.loop-test.false
+returns c = copied_all c.loop-i.invariant c.loop-i-test.false
 
 pub copy_spec : {M : Type 1} → statement M
 unfolding cell
@@ -59,5 +59,5 @@ copy_spec =
     (λ c. omega arith)
     (λ c. omega (arith, count_in c))
     count_in
-    (λ c. simp length-set (copied_length c.before.loop.invariant))
+    (λ c. simp length-set (copied_length c.loop-i.invariant))
     returns)

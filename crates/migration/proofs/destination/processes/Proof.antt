@@ -23,11 +23,11 @@ use Rattle.migration.proofs.destination.processes.Tie as tie
 abbrev writes : Form → Form → Topology → List ℕ → ℕ → List Write
 writes F G T source p = process_writes G (stored_line source) p (finished_word F T source p)
 
-abbrev invariant-loop : tie.invariant-loop
+abbrev invariant-loop : tie.invariant-loop-p
 invariant-loop topology from source to target₀ line p₀ target p =
     Wrote target₀ (writes (form_of from) (form_of to) topology source) topology.processes target p
 
-abbrev decreases-loop : tie.decreases-loop
+abbrev decreases-loop : tie.decreases-loop-p
 decreases-loop topology from source to target₀ line p₀ target p = topology.processes - p
 
 -- nothing was refused
@@ -36,41 +36,41 @@ known : (c : tie.Start invariant-loop decreases-loop)
 known c = let a = c.args in carriable _ _ a.topology a.source.now a.target.now c.requires
 
 -- where a turn begins
-abbrev start : tie.Then1 invariant-loop decreases-loop → tie.Start invariant-loop decreases-loop
+abbrev start : tie.In-loop-p invariant-loop decreases-loop → tie.Start invariant-loop decreases-loop
 start t = t.before.before.before.before.before.before
 
-abbrev at : tie.Then1 invariant-loop decreases-loop → ℕ
-at t = t.before.before.loop.p
+abbrev at : tie.In-loop-p invariant-loop decreases-loop → ℕ
+at t = t.loop-p.p
 
 -- where it writes
-abbrev found : tie.After-word invariant-loop decreases-loop → tie.After-physical-cell invariant-loop decreases-loop
+abbrev found : tie.After-word invariant-loop decreases-loop → tie.After-physical_cell-at invariant-loop decreases-loop
 found c = c.before.before
 
 -- the process's two cells are in the target
 inside : (c : tie.After-word invariant-loop decreases-loop)
-    → (found c).physical-cell.result + 1 < length (found c).before.before.before.loop.target
+    → (found c).physical_cell-at.result + 1 < length (found c).loop-p.target
 unfolding stored_line cell physical_cell count_cell
 inside c =
     let test = (found c).before in
     let sized = (known (start test)).sized in
     let line = stored_line (start test).args.source.now in
-    let count = in_store sized line _ (count_within sized line (message_log (at test)) test.if1.taken) in
-    omega (arith, count, (found c).physical-cell.ensures.is, wrote_length test.before.before.loop.inv)
+    let count = in_store sized line _ (count_within sized line (message_log (at test)) test.loop-p-test.true) in
+    omega (arith, count, (found c).physical_cell-at.ensures.is, wrote_length test.loop-p.invariant)
 
-loop-again : tie.Need-loop-preserved invariant-loop decreases-loop
+loop-again : tie.Need-loop-p-preserved invariant-loop decreases-loop
 unfolding stored_line cell physical_cell count_cell write write_all is_late
 loop-again c =
     let test = (found c).before in
-    let l = test.before.before.loop in
+    let l = test.loop-p in
     let known = (known (start test)).accepted in
-    one_wrote l.inv test.if1.taken
-    (ap₂ (λ (a v : ℕ). set (set l.target a v) (a + 1) 0) (found c).physical-cell.ensures.is
-    (word_given _ (start test).args.topology _ known _ test.if1.taken c.before.is-late.ensures
+    one_wrote l.invariant test.loop-p-test.true
+    (ap₂ (λ (a v : ℕ). set (set l.target a v) (a + 1) 0) (found c).physical_cell-at.ensures.is
+    (word_given _ (start test).args.topology _ known _ test.loop-p-test.true c.is_late-late.ensures
     c.word.ensures))
 
 returns : tie.Need-returns invariant-loop decreases-loop
 unfolding processes_writes
-returns c = all_wrote c.before.before.loop.invariant c.if1.false
+returns c = all_wrote c.loop-p.invariant c.loop-p-test.false
 
 pub processes_spec : {M : Type 1} → statement M
 processes_spec =
@@ -81,12 +81,12 @@ processes_spec =
     (λ c. line_in_store (known c.before.before.before).readable.sized)
     (λ c. none_wrote)
     (λ c κs. search rules) (λ c κs. search rules) (λ c κs. search rules)
-    (λ c. omega (arith, (found c).physical-cell.ensures.low))
+    (λ c. omega (arith, (found c).physical_cell-at.ensures.low))
     (λ c. omega (arith, inside c))
-    (λ c. omega (arith, (found c).physical-cell.ensures.low))
-    (λ c. omega (arith, (found c).physical-cell.ensures.low))
+    (λ c. omega (arith, (found c).physical_cell-at.ensures.low))
+    (λ c. omega (arith, (found c).physical_cell-at.ensures.low))
     (λ c. simp length-set (inside c))
     (λ c. search rules) (λ c. omega arith)
     loop-again
-    (λ c. wrote_length c.before.before.loop.invariant)
+    (λ c. wrote_length c.loop-p.invariant)
     returns)

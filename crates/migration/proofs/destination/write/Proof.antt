@@ -23,8 +23,7 @@ known c = let a = c.args in carriable _ _ a.topology a.source.now a.target.now c
 
 channels-requires : tie.Need-channels-requires
 channels-requires c κs =
-    let start = c.before.before.before.before.before.before.before in
-    rw (c.before.before.before.processes.ensures, length_write_all start.args.target.now _) start.requires
+    rw (c.processes.ensures, length_write_all c.args.target.now _) c.requires
 
 -- where the line cell is written: after the channels, and they after the processes
 abbrev start : tie.After-channels → tie.Start
@@ -37,18 +36,18 @@ writes c =
     ++ channels_writes (form_of a.from) (form_of a.to) a.topology a.source.now
 
 both : (c : tie.After-channels)
-    → c.channels.new.1.1.1.1.0 ≡ write_all (start c).args.target.now (writes (start c))
+    → c.channels.new.target ≡ write_all (start c).args.target.now (writes (start c))
 both c =
     let a = (start c).args in
     let channels = channels_writes (form_of a.from) (form_of a.to) a.topology a.source.now in
     c.channels.ensures
-    ∙ ap (λ (st : List ℕ). write_all st channels) c.before.before.before.before.processes.ensures
+    ∙ ap (λ (st : List ℕ). write_all st channels) c.processes.ensures
     ∙ sym (write_all_append a.target.now _ channels)
 
-still : (c : tie.After-channels) → length c.channels.new.1.1.1.1.0 ≡ length (start c).args.target.now
+still : (c : tie.After-channels) → length c.channels.new.target ≡ length (start c).args.target.now
 still c = ap length (both c) ∙ length_write_all (start c).args.target.now (writes (start c))
 
-slice-write-target : tie.Need-slice-write-target
+slice-write-target : tie.Need-bounds-target-0
 slice-write-target c =
     let after = c.before.before.before in
     omega (arith, still after, line_in_store (known (start after)).sized)
@@ -62,6 +61,6 @@ returns c =
 pub write_spec : {M : Type 1} → statement M
 write_spec =
     tie.close
-    (tie.spec (λ c κs. c.before.before.before.requires) channels-requires
+    (tie.spec (λ c κs. c.requires) channels-requires
     (λ c. line_in_store (known (start c.before.before.before)).readable.sized) slice-write-target
     (λ c. simp length-set (still c.before.before.before)) returns)

@@ -3,17 +3,13 @@ use borrow.Author.Rules.{rules}
 use Rattle.operator.proofs.carry.carried.Statement.{statement}
 use Rattle.operator.proofs.carry.carried.Tie as tie
 
-upgrades : tie.Need-returns
+upgrades : tie.Need-returns-in-Upgrade
 upgrades c =
-    let call = c.before.before in
-    let told = call.before.before in
-    rw told.enum_told.given.1 call.upgrade.ensures
+    rw c.in-Upgrade.is c.upgrade.ensures
 
-downgrades : tie.Need-returns-2
+downgrades : tie.Need-returns-in-Downgrade
 downgrades c =
-    let call = c.before.before in
-    let told = call.before.before in
-    rw told.enum-told2.given.1 call.downgrade.ensures
+    rw c.in-Downgrade.is c.downgrade.ensures
 
 pub carried_spec : {M : Type 1} → statement M
 carried_spec =

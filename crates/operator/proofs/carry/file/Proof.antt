@@ -14,8 +14,8 @@ use Rattle.operator.proofs.carry.file.Statement.{statement}
 use Rattle.operator.proofs.carry.file.Tie as tie
 
 -- what is printed of the ending
-module _ (t : tie.After-tell) where
-  abbrev call : tie.After-carry
+module _ (t : tie.After-tell-next) where
+  abbrev call : tie.After-carry-ending
   call = t.before.before.before
 
   abbrev start : tie.Start
@@ -23,37 +23,33 @@ module _ (t : tie.After-tell) where
 
   files : {before after : List ℕ} {r : ℕ}
       → Appends file_bytes before 0
-      (file_text (target_form start.args.way) (ending_in call.carry.result call.carry.last.1.1.0)) after r
+      (file_text (target_form start.args.way) (ending_in call.carry-ending.result call.carry-ending.new.target)) after r
       → Appends file_bytes before 0 (file_to (Carry start.args.way) start.args.bytes.now) after r
-  files x = ends_filed _ _ _ call.carry.result call.carry.ensures x
+  files x = ends_filed _ _ _ call.carry-ending.result call.carry-ending.ensures x
 
-plan : tie.Need-returns
+plan : tie.Need-returns-in-PlanRefused
 plan c =
-    let t = c.before.before.before.before in
-    files t (at_most (plan_told _ _ t.tell.ensures c.enum_told.given.1) (omega arith))
+    let t = c.before.before.before in
+    files t (at_most (plan_told _ _ t.tell-next.ensures c.in-PlanRefused.is) (omega arith))
 
-refused : tie.Need-returns-2
+refused : tie.Need-returns-in-Refused
 refused c =
-    let t = c.before.before.before.before in
-    files t (at_most (refusal_told _ _ t.tell.ensures c.enum-told2.given.1) (omega arith))
+    let t = c.before.before.before in
+    files t (at_most (refusal_told _ _ t.tell-next.ensures c.in-Refused.is) (omega arith))
 
-done : tie.Need-returns-3
+done : tie.Need-returns-in-Done
 done c =
-    let written = c.before.before in
-    let count = written.before.before in
-    let told = count.before.before in
-    let t = told.before.before.before.before in
+    let t = c.before.before.before.before.before.before.before.before.before in
     files t
-    (target_told _ _ t.tell.ensures told.enum-told3.given.1
-    (all_cells (start t).args.way _ count.target-cells.ensures written.write.ensures))
+    (target_told _ _ t.tell-next.ensures c.in-Done.is
+    (all_cells (start t).args.way _ c.target_cells.ensures c.write.ensures))
 
 -- the target has as many cells as are written
 within : tie.Need-write-requires
 within c κs =
-    let count = c.before in
-    let t = count.before.before.before.before.before.before in
+    let t = c.before.before.before.before.before.before in
     omega
-    (arith, count.target-cells.ensures, cells_few (start t).args.way, (call t).carry.auto.1.1.0)
+    (arith, c.target_cells.ensures, cells_few (start t).args.way, (call t).carry-ending.auto.target)
 
 pub file_spec : {M : Type 1} → statement M
 file_spec =

@@ -18,8 +18,8 @@ use Rattle.operator.proofs.carry.show.Statement.{statement}
 use Rattle.operator.proofs.carry.show.Tie as tie
 
 -- what is printed of the ending, with the target that was filled
-module _ (t : tie.After-tell) where
-  abbrev call : tie.After-carry
+module _ (t : tie.After-tell-at) where
+  abbrev call : tie.After-carry-ending
   call = t.before.before.before
 
   abbrev filled : tie.After-fill
@@ -29,36 +29,34 @@ module _ (t : tie.After-tell) where
   start = filled.before.before.before.before
 
   prints : {before after : List ℕ} {r : ℕ}
-      → Appends console_bytes before 0 (console_text (ending_in call.carry.result call.carry.last.1.1.0) [])
+      → Appends console_bytes before 0 (console_text (ending_in call.carry-ending.result call.carry-ending.new.target) [])
       after r
       → PrintsAnswer (carrying (source_form start.args.way) (target_form start.args.way) start.args.bytes.now
       start_store) before after r
   prints x =
-      ends_shown _ _ _ call.carry.last.1.1.0 call.carry.result filled.fill.ensures
-      call.carry.ensures (printed call.carry.result _ x)
+      ends_shown _ _ _ call.carry-ending.new.target call.carry-ending.result filled.fill.ensures
+      call.carry-ending.ensures (printed call.carry-ending.result _ x)
 
-plan : tie.Need-returns
+plan : tie.Need-returns-in-PlanRefused
 plan c =
-    let t = c.before.before.before.before in
-    prints t (at_most (plan_told changed_text _ t.tell.ensures c.enum_told.given.1) (omega arith))
+    let t = c.before.before.before in
+    prints t (at_most (plan_told changed_text _ t.tell-at.ensures c.in-PlanRefused.is) (omega arith))
 
-refused : tie.Need-returns-2
+refused : tie.Need-returns-in-Refused
 refused c =
-    let t = c.before.before.before.before in
-    prints t (at_most (refusal_told changed_text _ t.tell.ensures c.enum-told2.given.1) (omega arith))
+    let t = c.before.before.before in
+    prints t (at_most (refusal_told changed_text _ t.tell-at.ensures c.in-Refused.is) (omega arith))
 
-done : tie.Need-returns-3
+done : tie.Need-returns-in-Done
 done c =
-    let shown = c.before.before in
-    let told = shown.before.before.before in
-    let t = told.before.before.before.before in
+    let t = c.before.before.before.before.before.before.before.before in
     prints t
-    (at_most (target_told changed_text _ t.tell.ensures told.enum-told3.given.1 shown.changed.ensures)
+    (at_most (target_told changed_text _ t.tell-at.ensures c.in-Done.is c.changed.ensures)
     (omega arith))
 
 -- the target has its cells
-sized : tie.Need-slice-aggregate-carry
-sized c = omega (arith, ap length c.before.fill.ensures ∙ start_length)
+sized : tie.Need-slice_bounds-carry-end
+sized c = omega (arith, ap length c.fill.ensures ∙ start_length)
 
 pub show_spec : {M : Type 1} → statement M
 show_spec =

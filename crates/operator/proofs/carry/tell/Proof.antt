@@ -6,27 +6,24 @@ use Rattle.operator.specs.ConsoleText.{answer_text}
 use Rattle.operator.proofs.carry.tell.Statement.{statement}
 use Rattle.operator.proofs.carry.tell.Tie as tie
 
-plan : tie.Need-returns
+plan : tie.Need-returns-in-PlanRefused
 unfolding answer_text
 plan c =
-    let call = c.before.before in
-    rw call.before.before.before.ending.given.1 call.plan-refused.ensures
+    rw c.in-PlanRefused.is c.plan_refused.ensures
 
-refused : tie.Need-returns-2
+refused : tie.Need-returns-in-Refused
 unfolding answer_text
 refused c =
-    let call = c.before.before in
-    rw call.before.before.before.ending2.given.1 (at_most call.refused-line.ensures (omega arith))
+    rw c.in-Refused.is (at_most c.refused_line.ensures (omega arith))
 
-done : tie.Need-returns-3
+done : tie.Need-returns-in-Done
 unfolding answer_text
 done c =
-    let call = c.before.before in
-    rw call.before.before.before.enum_told.given.1 (at_most call.bytes.ensures (omega arith))
+    rw c.in-Done.is (at_most c.bytes.ensures (omega arith))
 
 pub tell_spec : {M : Type 1} → statement M
 tell_spec =
     tie.close
-    (tie.spec (λ c. search rules) (λ c κs. search rules) (λ c. search rules) (λ c κs. search rules) (λ c. search rules)
+    (tie.spec (λ c. search rules) (λ c κs. search rules) (λ c. search rules) (λ c κs. search rules)
     (λ c. search rules) (λ c κs. search rules) (λ c. search rules) plan (λ c. search rules) refused
     (λ c. search rules) done)

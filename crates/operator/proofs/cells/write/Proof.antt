@@ -12,34 +12,31 @@ use Rattle.operator.proofs.Files.{cell_written}
 use Rattle.operator.proofs.cells.write.Statement.{statement}
 use Rattle.operator.proofs.cells.write.Tie as tie
 
-abbrev invariant-loop : tie.invariant-loop
+abbrev invariant-loop : tie.invariant-loop-i
 invariant-loop cells count out₀ at next₀ i₀ out next i = Appended 4 count (λ i. body_bytes (cell cells i)) out₀ at i out next
 
-abbrev decreases-loop : tie.decreases-loop
+abbrev decreases-loop : tie.decreases-loop-i
 decreases-loop cells count out₀ at next₀ i₀ out next i = count - i
 
-loop-again : tie.Need-loop-preserved invariant-loop decreases-loop
+loop-again : tie.Need-loop-i-preserved invariant-loop decreases-loop
 unfolding cell
 loop-again c =
-    let written = c.before.before in
-    let made = written.before.before.before in
-    let inside = made.before.before in
-    one_appended inside.before.loop.invariant inside.loop-test.true
-    (cell_written _ made.word_Bytes.ensures written.bytes2.ensures)
+    one_appended c.loop-i.invariant c.loop-i-test.true
+    (cell_written _ c.word_bytes-bytes.ensures c.bytes-next.ensures)
 
 -- a cell has 4 bytes
-sized : (c : tie.After-word-bytes invariant-loop decreases-loop) → 4 ≡ length c.word_Bytes.result
+sized : (c : tie.After-word_bytes-bytes invariant-loop decreases-loop) → 4 ≡ length c.word_bytes-bytes.result
 unfolding body_bytes
-sized c = sym (ap length c.word_Bytes.ensures)
+sized c = sym (ap length c.word_bytes-bytes.ensures)
 
 returns : tie.Need-returns invariant-loop decreases-loop
 unfolding cells_bytes
-returns c = all_appended c.before.loop.invariant c.loop-test.false
+returns c = all_appended c.loop-i.invariant c.loop-i-test.false
 
 pub write_spec : {M : Type 1} → statement M
 write_spec =
     tie.close
-    (tie.spec invariant-loop decreases-loop (λ c. none_appended) (λ c. omega (arith, c.before.before.before.before.requires))
-    (λ c. omega (arith, c.before.before.before.before.before.requires)) (λ c κs. search rules)
+    (tie.spec invariant-loop decreases-loop (λ c. none_appended) (λ c. omega (arith, c.requires))
+    (λ c. omega (arith, c.requires)) (λ c κs. search rules)
     (λ c. sized c.before.before) (λ c κs. search rules) (λ c. omega arith) (λ c. omega arith) loop-again
-    (λ c. kept_length c.before.loop.invariant) returns)
+    (λ c. kept_length c.loop-i.invariant) returns)

@@ -15,45 +15,43 @@ use Rattle.operator.proofs.Listing.{after_call, Listing, list_starts, list_ends,
 use Rattle.operator.proofs.list.read.Statement.{statement}
 use Rattle.operator.proofs.list.read.Tie as tie
 
-abbrev invariant-loop : tie.invariant-loop
+abbrev invariant-loop : tie.invariant-loop-left
 invariant-loop bytes list₀ left₀ list left = Listing bytes list left
 
-abbrev decreases-loop : tie.decreases-loop
+abbrev decreases-loop : tie.decreases-loop-left
 decreases-loop bytes list₀ left₀ list left = length left
 
-loop-holds : tie.Need-loop-init invariant-loop decreases-loop
-loop-holds c = list_starts (λ i. omega (arith, c.shared-slice-known.given i))
+loop-holds : tie.Need-loop-left-init invariant-loop decreases-loop
+loop-holds c = list_starts (λ i. omega (arith, c.shared_slice_known-1.given i))
 
 -- a record was read, and left after it
-module _ (c : tie.After-rest invariant-loop decreases-loop) where
-  abbrev at-loop : tie.At-loop invariant-loop decreases-loop
-  at-loop = c.before.before.before.before.before.before
+module _ (c : tie.After-rest-after invariant-loop decreases-loop) where
+  abbrev at-loop : tie.At-loop-left invariant-loop decreases-loop
+  at-loop = c.before.before.before.before
 
-  read : read_record at-loop.loop.left.now ≡ some (c.before.before.content.given.0.0, c.rest.result.now)
+  read : read_record at-loop.loop-left.left.now ≡ some (c.in-Read.content, c.rest-after.result.now)
   read =
-      let r = c.before.before in
-      a_record _ _ (sym r.before.before.read.ensures ∙ ap record_said r.content.given.1)
-      ∙ ap (λ (rest : List ℕ). some (r.content.given.0.0, rest)) (sym c.rest.ensures)
+      a_record _ _ (sym c.read.ensures ∙ ap record_said c.in-Read.is)
+      ∙ ap (λ (rest : List ℕ). some (c.in-Read.content, rest)) (sym c.rest-after.ensures)
 
-  after : After at-loop.loop.left.now c.rest.result.now
-  after = after_call _ at-loop.loop.inv.bytes _ _ read
+  after : After at-loop.loop-left.left.now c.rest-after.result.now
+  after = after_call _ at-loop.loop-left.invariant.bytes _ _ read
 
-breaks : tie.Need-returns invariant-loop decreases-loop
+breaks : tie.Need-returns-in_default invariant-loop decreases-loop
 breaks c =
-    let at = c.before.before.before in
-    list_breaks at.before.loop.invariant at.loop-test.true
-    (no_record _ (sym c.before.before.read.ensures ∙ ap record_said c.enum_told.given.1))
+    list_breaks c.loop-left.invariant c.loop-left-test.true
+    (no_record _ (sym c.read.ensures ∙ ap record_said c.in_default.is))
 
-loop-again : tie.Need-loop-preserved invariant-loop decreases-loop
-loop-again c = list_goes_on (at-loop c.before).loop.inv _ _ (read c.before) c.add.ensures
+loop-again : tie.Need-loop-left-preserved invariant-loop decreases-loop
+loop-again c = list_goes_on (at-loop c.before).loop-left.invariant _ _ (read c.before) c.add-list.ensures
 
-ends : tie.Need-returns-2 invariant-loop decreases-loop
-ends c = list_ends c.before.loop.invariant c.loop-test.false
+ends : tie.Need-returns invariant-loop decreases-loop
+ends c = list_ends c.loop-left.invariant c.loop-left-test.false
 
 pub read_spec : {M : Type 1} → statement M
 read_spec =
     tie.close
     (tie.spec invariant-loop decreases-loop loop-holds (λ c κs. search rules) (λ c. search rules) (λ c. search rules) breaks
     (λ c κs. search rules)
-    (λ c κs. omega (arith, (at-loop c).loop.invariant.fewer, fewer (after c), (at-loop c).before.before.requires))
+    (λ c κs. omega (arith, (at-loop c).loop-left.invariant.fewer, fewer (after c), (at-loop c).requires))
     (λ c. omega (arith, fewer (after c.before))) loop-again ends)

@@ -10,35 +10,31 @@ use Rattle.operator.proofs.print.kept.Statement.{statement}
 use Rattle.operator.proofs.print.kept.Tie as tie
 
 -- what was asked of the call
-module _ (q : tie.After-is-send) where
+module _ (q : tie.After-is_send) where
   abbrev start : tie.Start
   start = q.before.before.before.before.before
 
-  told : q.is-send.result ≡ is_send (call_at start.args.list start.args.place)
-  told = q.is-send.ensures ∙ ap is_send q.before.call-at.ensures
+  told : q.is_send.result ≡ is_send (call_at start.args.list start.args.place)
+  told = q.is_send.ensures ∙ ap is_send q.call_at.ensures
 
-sent : tie.Need-returns
+sent : tie.Need-returns-then-is_send
 sent c =
-    let line = c.before.before in
-    let tested = line.before.before.before in
-    let call = line.before.before.before.before.before.before.before.call-bytes.ensures in
-    rw (sym (told tested.before) ∙ tested.if1.true) (line_printed _ call _ _ _ line.sent-line.ensures)
+    let call = c.call_bytes-written.ensures in
+    rw (sym (told c.before.before.before.before.before.before) ∙ c.if-is_send.true) (line_printed _ call _ _ _ c.sent_line.ensures)
 
-other : tie.Need-returns-2
+other : tie.Need-returns
 other c =
-    let line = c.before.before in
-    let tested = line.before.before.before in
-    let call = line.before.before.before.before.before.before.before.call-bytes.ensures in
-    rw (sym (told tested.before) ∙ tested.if1.false)
-    (at_most (line_printed _ call _ _ _ line.Kept-line.ensures) (omega arith))
+    let call = c.call_bytes-written.ensures in
+    rw (sym (told c.before.before.before.before.before.before) ∙ c.if-is_send.false)
+    (at_most (line_printed _ call _ _ _ c.kept_line.ensures) (omega arith))
 
 pub kept_spec : {M : Type 1} → statement M
 kept_spec =
     tie.close
     (tie.spec (λ c κs. search rules) (λ c. search rules) (λ c κs. search rules) (λ c κs. search rules)
-    (λ c. written_within _ c.before.before.before.before.before.call-bytes.ensures)
-    (λ c. written_count _ c.before.before.before.before.before.before.call-bytes.ensures)
+    (λ c. written_within _ c.call_bytes-written.ensures)
+    (λ c. written_count _ c.call_bytes-written.ensures)
     (λ c κs. search rules) (λ c. search rules) sent
-    (λ c. written_within _ c.before.before.before.before.before.call-bytes.ensures)
-    (λ c. written_count _ c.before.before.before.before.before.before.call-bytes.ensures)
+    (λ c. written_within _ c.call_bytes-written.ensures)
+    (λ c. written_count _ c.call_bytes-written.ensures)
     (λ c κs. search rules) (λ c. search rules) other)

@@ -6,13 +6,12 @@ use Rattle.operator.proofs.print.last.Tie as tie
 
 returns : tie.Need-returns
 returns c =
-    let line = c.before.before in
-    let call = line.before.before.before.before.call-bytes.ensures in
-    line_printed _ call _ _ _ line.last_line.ensures
+    let call = c.call_bytes-written.ensures in
+    line_printed _ call _ _ _ c.last_line.ensures
 
 pub last_spec : {M : Type 1} → statement M
 last_spec =
     tie.close
-    (tie.spec (λ c κs. search rules) (λ c. written_within _ c.before.before.call-bytes.ensures)
-    (λ c. written_count _ c.before.before.before.call-bytes.ensures) (λ c. search rules) (λ c κs. search rules)
+    (tie.spec (λ c κs. search rules) (λ c. written_within _ c.call_bytes-written.ensures)
+    (λ c. written_count _ c.call_bytes-written.ensures) (λ c. search rules) (λ c κs. search rules)
     (λ c. search rules) returns)

@@ -22,37 +22,32 @@ abbrev line : CallList → Part → List ℕ → ℕ → List ℕ
 line list part rooms i =
     let place : ℕ = get_or part.places i 0 in kept_line (call_at list place) place (get_or rooms i 0)
 
-abbrev invariant-loop : tie.invariant-loop
+abbrev invariant-loop : tie.invariant-loop-i
 invariant-loop list refusal out₀ at part rooms end next₀ i₀ out next i =
     Appended (sent_bytes longest) end (line list part rooms) out₀ at i out next
 
-abbrev decreases-loop : tie.decreases-loop
+abbrev decreases-loop : tie.decreases-loop-i
 decreases-loop list refusal out₀ at part rooms end next₀ i₀ out next i = end - i
 
-starts : tie.Need-loop-init invariant-loop decreases-loop
+starts : tie.Need-loop-i-init invariant-loop decreases-loop
 starts c = none_appended
 
-loop-again : tie.Need-loop-preserved invariant-loop decreases-loop
+loop-again : tie.Need-loop-i-preserved invariant-loop decreases-loop
 loop-again c =
-    let printed = c.before.before in
-    let inside = printed.before.before.before in
-    one_appended inside.before.loop.invariant inside.loop-test.true printed.kept.ensures
+    one_appended c.loop-i.invariant c.loop-i-test.true c.kept-next.ensures
 
 returns : tie.Need-returns invariant-loop decreases-loop
 returns c =
-    let last = c.before.before in
-    let ended = last.before.before.before in
-    let start = ended.before.before.before in
-    part_printed (call_at start.args.list) start.args.t3 start.requires.0 start.requires.1
-    (refusal_number start.args.refusal)
-    (all_appended ended.before.loop.invariant ended.loop-test.false) last.last.ensures
+    part_printed (call_at c.args.list) c.args.rooms c.requires.0 c.requires.1
+    (refusal_number c.args.refusal)
+    (all_appended c.loop-i.invariant c.loop-i-test.false) c.last.ensures
 
 pub part_spec : {M : Type 1} → statement M
 part_spec =
     tie.close
-    (tie.spec invariant-loop decreases-loop (λ c. c.before.requires.1) starts (λ c. search rules)
-    (λ c. omega (arith, c.before.before.before.requires.0.within)) (λ c. search rules)
-    (λ c. omega (arith, c.before.before.before.before.requires.0.within)) (λ c κs. search rules) (λ c. omega arith)
+    (tie.spec invariant-loop decreases-loop (λ c. c.requires.1) starts (λ c. search rules)
+    (λ c. omega (arith, c.requires.0.within)) (λ c. search rules)
+    (λ c. omega (arith, c.requires.0.within)) (λ c κs. search rules) (λ c. omega arith)
     (λ c. omega arith) loop-again (λ c. search rules)
-    (λ c. omega (arith, c.before.before.before.requires.0.within)) (λ c κs. search rules)
+    (λ c. omega (arith, c.requires.0.within)) (λ c κs. search rules)
     (λ c. appended_length (returns c)) returns)

@@ -20,100 +20,91 @@ use Rattle.operator.proofs.Answering.{has_call}
 use Rattle.operator.proofs.reduce.reduce.Statement.{statement}
 use Rattle.operator.proofs.reduce.reduce.Tie as tie
 
-plan : tie.Need-returns
+plan : tie.Need-returns-in-Refuse
 unfolding refusal_of
 plan c =
-    let line = c.before.before in
-    let told = line.before.before.before in
-    let k = told.before.before in
-    let refusal = sym (plan_refusal_lem k.read.result _ k.read.ensures) ∙ ap refusal_of told.verdict.given.1 in
-    answers_plan _ refusal line.plan-refused.ensures
+    let refusal = sym (plan_refusal_lem c.read-reading.result _ c.read-reading.ensures) ∙ ap refusal_of c.in-Refuse.is in
+    answers_plan _ refusal c.plan_refused.ensures
 
 -- the plan passes, and its records follow
-module _ (r : tie.After-rest) where
-  abbrev reading : tie.After-read
-  reading = r.before.before.before.before
+module _ (r : tie.After-rest-records) where
+  abbrev reading : tie.After-read-reading
+  reading = r.before.before.before
 
   abbrev start : tie.Start
   start = reading.before.before.before
 
-  passes : Passes start.args.bytes.now reading.read.result.topology
+  passes : Passes start.args.bytes.now reading.read-reading.result.topology
   unfolding refusal_of
   passes =
-      plan_read reading.read.result _ reading.read.ensures
-      (ap refusal_of r.before.before.enum_told.given.1)
+      plan_read reading.read-reading.result _ reading.read-reading.ensures
+      (ap refusal_of r.in_default.is)
 
-  few : length r.rest.result.now ≤ input_bytes
-  few = rw (r.rest.ensures, length-drop) (omega (arith, start.pre))
+  few : length r.rest-records.result.now ≤ input_bytes
+  few = rw (r.rest-records.ensures, length-drop) (omega (arith, start.requires))
 
 -- and its list
-module _ (l : tie.After-read2) where
-  abbrev rest : tie.After-rest
+module _ (l : tie.After-read-read) where
+  abbrev rest : tie.After-rest-records
   rest = l.before
 
-  list_read : ReadsList (records (start rest).args.bytes.now) l.read2.result
-  list_read = subst (λ (bytes : List ℕ). ReadsList bytes l.read2.result) rest.rest.ensures l.read2.ensures
+  list_read : ReadsList (records (start rest).args.bytes.now) l.read-read.result
+  list_read = subst (λ (bytes : List ℕ). ReadsList bytes l.read-read.result) rest.rest-records.ensures l.read-read.ensures
 
-broken : tie.Need-returns-2
+broken : tie.Need-returns-then-read
 broken c =
-    let line = c.before.before in
-    let tested = line.before.before in
-    let l = tested.before in
-    answers_broken _ (passes (rest l)).checks (sym (list_read l).broken ∙ tested.if1.true)
-    line.refused-line.ensures
+    let l = c.before.before.before.before.before in
+    answers_broken _ (passes (rest l)).checks (sym (list_read l).broken ∙ c.if-read.true)
+    c.refused_line.ensures
 
 -- and what is sought in it
-module _ (q : tie.After-reduce) where
-  abbrev tested : tie.Else1
+module _ (q : tie.After-reduce-reduced) where
+  abbrev tested : tie.Else-read
   tested = q.before.before
 
-  abbrev list : tie.After-read2
+  abbrev list : tie.After-read-read
   list = tested.before
 
   whole_list : broken_off (records (start (rest list)).args.bytes.now) ≡ false
-  whole_list = sym (list_read list).broken ∙ tested.if1.left
+  whole_list = sym (list_read list).broken ∙ tested.if-read.false
 
-refused : tie.Need-returns-3
+refused : tie.Need-returns-in-Refused
 refused c =
-    let line = c.before.before in
-    let found = line.before.before.before in
-    let q = found.before.before in
+    let q = c.before.before.before.before.before in
     let plan = passes (rest (list q)) in
     answers_refused _ plan.checks plan.plan _ (list_read (list q)) (whole_list q)
-    (sym q.reduce.ensures.answer ∙ ap sought_in found.found.given.1) line.refused-line2.ensures
+    (sym q.reduce-reduced.ensures.answer ∙ ap sought_in c.in-Refused.is) c.refused_line-in-Refused.ensures
 
 -- a part was found
-module _ (d : tie.After-found2) where
-  abbrev reduced : tie.After-reduce
-  reduced = d.before.before
+module _ (d : tie.In-Failure) where
+  abbrev reduced : tie.After-reduce-reduced
+  reduced = d.before
 
   abbrev failure : Failure
-  failure = record { place = d.found2.given.0.0; number = refusal_number d.found2.given.0.1.0 }
+  failure = record { place = d.in-Failure.field-0; number = refusal_number d.in-Failure.r }
 
-  finds_it : sought (reading (rest (list reduced))).read.result.topology (listed (list reduced).read2.result.list)
+  finds_it : sought (reading (rest (list reduced))).read-reading.result.topology (listed (list reduced).read-read.result.list)
       ≡ finds failure
-  finds_it = sym reduced.reduce.ensures.answer ∙ ap sought_in d.found2.given.1
+  finds_it = sym reduced.reduce-reduced.ensures.answer ∙ ap sought_in d.in-Failure.is
 
-  small : Smallest (reading (rest (list reduced))).read.result.topology
-      (listed (list reduced).read2.result.list) failure (kept reduced.reduce.result.part)
-  small = rw finds_it at reduced.reduce.ensures.part
+  small : Smallest (reading (rest (list reduced))).read-reading.result.topology
+      (listed (list reduced).read-read.result.list) failure (kept reduced.reduce-reduced.result.part)
+  small = rw finds_it at reduced.reduce-reduced.ensures.part
 
 may-print : tie.Need-part-requires
 may-print c κs =
-    let d = c.before.before.before.before.before.before.before.before.before in
-    let held = (reduced d).reduce.ensures.held in
+    let d = c.before.before.before.before.before.before.before.before in
+    let held = (reduced d).reduce-reduced.ensures.held in
     (held, rw (← kept_length held) (has_call _ _ (finds_it d) (small d)))
 
-part : tie.Need-returns-4
+part : tie.Need-returns-in-Failure
 part c =
-    let lines = c.before.before in
-    let shown = lines.before.before.before.before.before.before in
-    let d = shown.before.before.before.before in
+    let d = c.before.before.before.before.before.before.before.before.before.before.before in
     let q = reduced d in
     let plan = passes (rest (list q)) in
     answers_part _ plan.checks plan.plan _ (list_read (list q)) (whole_list q)
-    (finds_it d) (small d) q.reduce.ensures.rooms shown.before.own.ensures shown.plan-line.ensures
-    lines.part2.ensures
+    (finds_it d) (small d) q.reduce-reduced.ensures.rooms c.own.ensures c.plan_line-at.ensures
+    c.part.ensures
 
 pub reduce_spec : {M : Type 1} → statement M
 reduce_spec =

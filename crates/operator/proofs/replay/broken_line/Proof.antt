@@ -8,15 +8,14 @@ use Rattle.report.proofs.Appending.{nothing, at_most}
 use Rattle.operator.proofs.replay.broken_line.Statement.{statement}
 use Rattle.operator.proofs.replay.broken_line.Tie as tie
 
-broken : tie.Need-returns
+broken : tie.Need-returns-then-broken
 unfolding lines_text broken_line
 broken c =
-    let line = c.before.before in
-    rw (line.before.before.if1.true, append-nil) line.outcome-line.ensures
+    rw (c.if-broken.true, append-nil) c.outcome_line.ensures
 
-whole : tie.Need-returns-2
+whole : tie.Need-returns
 unfolding lines_text broken_line
-whole c = rw c.if1.false (at_most (nothing _ _) (omega arith))
+whole c = rw c.if-broken.false (at_most (nothing _ _) (omega arith))
 
 pub broken_line_spec : {M : Type 1} → statement M
 broken_line_spec = tie.close (tie.spec (λ c κs. search rules) (λ c. search rules) broken whole)

@@ -3,15 +3,13 @@ use borrow.Author.Rules.{rules}
 use Rattle.operator.proofs.replay.line.Statement.{statement}
 use Rattle.operator.proofs.replay.line.Tie as tie
 
-step : tie.Need-returns
+step : tie.Need-returns-in-Step
 step c =
-    let call = c.before.before in
-    rw call.before.before.before.outcome.given.1 call.outcome-line.ensures
+    rw c.in-Step.is c.outcome_line.ensures
 
-recovered : tie.Need-returns-2
+recovered : tie.Need-returns-in-Line
 recovered c =
-    let call = c.before.before in
-    rw call.before.before.before.outcome2.given.1 call.recover-line.ensures
+    rw c.in-Line.is c.recover_line.ensures
 
 pub line_spec : {M : Type 1} → statement M
 line_spec =

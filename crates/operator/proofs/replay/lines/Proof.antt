@@ -10,24 +10,22 @@ use Rattle.operator.specs.Replaying.{answer_line}
 use Rattle.operator.proofs.replay.lines.Statement.{statement}
 use Rattle.operator.proofs.replay.lines.Tie as tie
 
-abbrev invariant-loop : tie.invariant-loop
+abbrev invariant-loop : tie.invariant-loop-i
 invariant-loop n out₀ answers next₀ i₀ out next i =
     Appended line_bytes n (λ k. answer_line (k + 1) (get_or answers k unanswered)) out₀ 0 i out next
 
-abbrev decreases-loop : tie.decreases-loop
+abbrev decreases-loop : tie.decreases-loop-i
 decreases-loop n out₀ answers next₀ i₀ out next i = n - i
 
-loop-again : tie.Need-loop-preserved invariant-loop decreases-loop
+loop-again : tie.Need-loop-i-preserved invariant-loop decreases-loop
 loop-again c =
-    let line = c.before.before in
-    let inside = line.before.before.before in
-    one_appended inside.before.loop.invariant inside.loop-test.true line.line.ensures
+    one_appended c.loop-i.invariant c.loop-i-test.true c.line-next.ensures
 
 pub lines_spec : {M : Type 1} → statement M
 lines_spec =
     tie.close
     (tie.spec invariant-loop decreases-loop (λ c. none_appended) (λ c. search rules)
-    (λ c. omega (arith, c.before.before.before.requires)) (λ c. omega (arith, c.before.before.before.requires))
+    (λ c. omega (arith, c.requires)) (λ c. omega (arith, c.requires))
     (λ c. search rules) (λ c. search rules) (λ c κs. search rules) (λ c. search rules) (λ c. search rules) loop-again
-    (λ c. kept_length c.before.loop.invariant)
-    (λ c. all_within c.before.loop.invariant c.loop-test.false c.before.before.before.requires))
+    (λ c. kept_length c.loop-i.invariant)
+    (λ c. all_within c.loop-i.invariant c.loop-i-test.false c.requires))

@@ -14,83 +14,77 @@ use Rattle.operator.proofs.Replaying.{Ran, list_refused, list_run, replays_plan,
 use Rattle.operator.proofs.replay.replay.Statement.{statement}
 use Rattle.operator.proofs.replay.replay.Tie as tie
 
-plan : tie.Need-returns
+plan : tie.Need-returns-in-Refuse
 unfolding refusal_of
 plan c =
-    let line = c.before.before in
-    let told = line.before.before.before in
-    let k = told.before.before in
-    let refusal = sym (plan_refusal_lem k.read.result _ k.read.ensures) ∙ ap refusal_of told.verdict.given.1 in
-    replays_plan _ refusal line.plan-refused.ensures
+    let refusal = sym (plan_refusal_lem c.read-reading.result _ c.read-reading.ensures) ∙ ap refusal_of c.in-Refuse.is in
+    replays_plan _ refusal c.plan_refused.ensures
 
 -- the plan passes, and its records follow
 module _ (r : tie.After-rest) where
-  abbrev reading : tie.After-read
-  reading = r.before.before.before.before
+  abbrev reading : tie.After-read-reading
+  reading = r.before.before.before
 
   abbrev start : tie.Start
   start = reading.before.before.before
 
-  passes : Passes start.args.bytes.now reading.read.result.topology
+  passes : Passes start.args.bytes.now reading.read-reading.result.topology
   unfolding refusal_of
   passes =
-      plan_read reading.read.result _ reading.read.ensures
-      (ap refusal_of r.before.before.enum_told.given.1)
+      plan_read reading.read-reading.result _ reading.read-reading.ensures
+      (ap refusal_of r.in_default.is)
 
   few : length r.rest.result.now ≤ input_bytes
-  few = rw (r.rest.ensures, length-drop) (omega (arith, start.pre))
+  few = rw (r.rest.ensures, length-drop) (omega (arith, start.requires))
 
 -- and its list, with what the slow engine says of it
-module _ (s : tie.After-replay) where
-  abbrev listed : tie.After-read2
+module _ (s : tie.After-replay-replayed) where
+  abbrev listed : tie.After-read-read
   listed = s.before.before
 
   abbrev rest : tie.After-rest
   rest = listed.before
 
-  list_read : ReadsList (records (start rest).args.bytes.now) listed.read2.result
+  list_read : ReadsList (records (start rest).args.bytes.now) listed.read-read.result
   list_read =
-      subst (λ (bytes : List ℕ). ReadsList bytes listed.read2.result) rest.rest.ensures listed.read2.ensures
+      subst (λ (bytes : List ℕ). ReadsList bytes listed.read-read.result) rest.rest.ensures listed.read-read.ensures
 
-refused : tie.Need-returns-2
+refused : tie.Need-returns-in-Refuse-judged
 unfolding refusal_of
 refused c =
-    let line = c.before.before in
-    let told = line.before.before.before in
-    let s = told.before.before in
+    let s = c.before.before.before.before.before in
     let plan = passes (rest s) in
     replays_refused _ plan.checks plan.plan
-    (list_refused _ _ (list_read s) s.replay.ensures (ap refusal_of told.judged.given.1))
-    line.refused-line.ensures
+    (list_refused _ _ (list_read s) s.replay-replayed.ensures (ap refusal_of c.in-Refuse-judged.is))
+    c.refused_line.ensures
 
 -- which runs it
-module _ (a : tie.After-answers) where
-  abbrev ran : tie.After-replay
-  ran = a.before.before.before
+module _ (a : tie.After-answers-1) where
+  abbrev ran : tie.After-replay-replayed
+  ran = a.before.before
 
-  is_run : Ran (reading (rest ran)).read.result.topology (calls_in (records (start (rest ran)).args.bytes.now))
-      ran.replay.result
+  is_run : Ran (reading (rest ran)).read-reading.result.topology (calls_in (records (start (rest ran)).args.bytes.now))
+      ran.replay-replayed.result
   unfolding refusal_of
-  is_run = list_run _ _ (list_read ran) ran.replay.ensures (ap refusal_of a.before.enum-told2.given.1)
+  is_run = list_run _ _ (list_read ran) ran.replay-replayed.ensures (ap refusal_of a.in_default-judged.is)
 
 -- and is printed: the calls' lines, and the one where the bytes break off
-abbrev broken : tie.After-print-arg → tie.After-broken-line
+abbrev broken : tie.After-print-arg-1 → tie.After-broken_line-next
 broken p = p.before.before.before.before
 
-abbrev lines : tie.After-print-arg → tie.After-lines
+abbrev lines : tie.After-print-arg-1 → tie.After-lines-at
 lines p = (broken p).before.before.before.before.before
 
-abbrev answers : tie.After-print-arg → tie.After-answers
+abbrev answers : tie.After-print-arg-1 → tie.After-answers-1
 answers p = (lines p).before.before
 
-all : tie.Need-returns-3
+all : tie.Need-returns
 all c =
-    let ending = c.before.before in
-    let p = ending.before in
+    let p = c.before.before.before in
     let s = ran (answers p) in
     let plan = passes (rest s) in
-    replays_run _ plan.checks plan.plan (is_run (answers p)) (start (rest s)).pre plan.accepted
-    (list_read s).broken (lines p).lines.ensures (broken p).broken-line.ensures ending.print.ensures
+    replays_run _ plan.checks plan.plan (is_run (answers p)) (start (rest s)).requires plan.accepted
+    (list_read s).broken (lines p).lines-at.ensures (broken p).broken_line-next.ensures c.print.ensures
 
 pub replay_spec : {M : Type 1} → statement M
 replay_spec =

@@ -107,15 +107,14 @@ plain_kinds p e j h = rw e (get_or-replicate array_places j 0 0 h)
 returns-4 : tie.Need-returns invariant-loop decreases-loop
 unfolding cell logged bodies_by entries_by
 returns-4 c =
-    let l = c.before.before.before in
-    let q = l.before.before.before.before in
+    let q = c.before.before.before.before.before.before.before in
     ap entries c.held.ensures
     ∙ entries_messages _ (λ i. cell (st q) (at q + 1 + i))
     (λ j h. plain_kinds _ c.blank-places.ensures j (omega arith))
-    (λ j h. ap (λ (f : ℕ → ℕ). f j) l.loop-i.invariant.1 ∙ rw (lt-ltb j l.loop-i.i (omega arith)))
+    (λ j h. ap (λ (f : ℕ → ℕ). f j) c.loop-i.invariant.1 ∙ rw (lt-ltb j c.loop-i.i (omega arith)))
     ∙ ap (messages false) (sym (bodies_are (st q) (at q) _))
-    ∙ rw (within (F q) (st q) (log q) (possibly q) (omega (arith, begins q, l.if-store-at.false))
-    (rw (← (begins q)) (omega (arith, l.if-n.false))))
+    ∙ rw (within (F q) (st q) (log q) (possibly q) (omega (arith, begins q, c.if-store-at.false))
+    (rw (← (begins q)) (omega (arith, c.if-n.false))))
     (ap (λ (a : ℕ). messages false (bodies_at (st q) a)) (begins q))
 
 pub channel_spec : {M : Type 1} → statement M

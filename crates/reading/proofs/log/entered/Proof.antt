@@ -17,8 +17,7 @@ returns c = rw c.in-Old.is c.old_enter.ensures
 
 returns-2 : tie.Need-returns-in-Present
 returns-2 c =
-    let r = c.before in
-    rw r.in-Present.is (c.enter.ensures ∙ ap (enter _) r.receipt.ensures)
+    rw c.in-Present.is (c.enter.ensures ∙ ap (enter _) c.receipt.ensures)
 
 pub entered_spec : {M : Type 1} → statement M
 entered_spec =

@@ -35,9 +35,9 @@ inside c =
     index_inside c.loop-i.invariant.index c.loop-i-test.true _
     (omega (arith, (begun c).requires.inside, mul-le-mul_left cells (begun c).requires.count))
 
-add-entry-2 : tie.Need-overflow-add-entry-2 invariant-loop decreases-loop
+add-entry-2 : tie.Need-overflow_add-entry-in-loop-i invariant-loop decreases-loop
 add-entry-2 c =
-    let turn = c.before in omega (arith, inside turn, turn.before.before.before.message-cells.ensures)
+    let turn = c.before in omega (arith, inside turn, turn.message_cells-cells.ensures)
 
 add-i : tie.Need-overflow_add-i invariant-loop decreases-loop
 unfolding cell

@@ -17,8 +17,7 @@ undone-requires c κs = rw c.in-Present.is at c.requires
 old-form : tie.Need-returns-in-Old
 unfolding restore restore_by
 old-form c =
-    let told = c.before in
-    rw (no_rule told.args.late (ap (λ f. (form_of f).leave) told.in-Old.is))
+    rw (no_rule c.args.late (ap (λ f. (form_of f).leave) c.in-Old.is))
     c.replayed.ensures
 
 late-process : tie.Need-returns-then-late

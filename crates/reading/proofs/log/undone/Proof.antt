@@ -21,15 +21,13 @@ loop-holds c = undo_starts (omega arith)
 -- the entry of this turn is in the store
 entry_in : tie.Need-receipt-requires invariant-loop decreases-loop
 entry_in c κs =
-    let begun = c.before.before.before.before.before in
     let inv = c.loop-i.invariant in
-    omega (arith, inv.stands, inv.within, begun.requires.inside, begun.requires.count)
+    omega (arith, inv.stands, inv.within, c.requires.inside, c.requires.count)
 
 loop-again : tie.Need-loop-i-preserved invariant-loop decreases-loop
 loop-again c =
-    let turn = c.before.before in
     rw (c.leave-word.ensures, c.receipt.ensures)
-    (undo_goes_on turn.loop-i.invariant turn.loop-i-test.true)
+    (undo_goes_on c.loop-i.invariant c.loop-i-test.true)
 
 returns : tie.Need-returns invariant-loop decreases-loop
 returns c = undo_ends c.loop-i.invariant (omega arith)

@@ -59,19 +59,16 @@ returns-3 c =
 restored-requires : tie.Need-restored-requires
 unfolding cell
 restored-requires c κs =
-    let e = c.before.before in
-    record { inside = omega (arith, e.if-store-at.false, e.process_cells.ensures.is); count = omega arith }
+    record { inside = omega (arith, c.if-store-at.false, c.process_cells.ensures.is); count = omega arith }
 
 returns-4 : tie.Need-returns
 unfolding cell restored receipts_by entries_by physical_cell count_cell
 returns-4 c =
-    let d = c.before in
-    let e = d.before.before in
-    let p = e.before in
+    let p = c.before.before.before.before in
     c.restored.ensures
     ∙ rw (within (F p) (st p) (log p) (possibly p)
-    (omega (arith, e.if-store-at.false, counts p, p.process_cells.ensures.is))
-    (rw (counts p) (omega (arith, d.if-store-at-2.false))))
+    (omega (arith, c.if-store-at.false, counts p, p.process_cells.ensures.is))
+    (rw (counts p) (omega (arith, c.if-store-at-2.false))))
     (ap (word_at (F p) _ (st p)) (begins p))
 
 pub word_spec : {M : Type 1} → statement M

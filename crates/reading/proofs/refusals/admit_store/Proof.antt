@@ -14,10 +14,9 @@ counts-fit-requires c κs = sym c.admit_cells.ensures ∙ ap refusal_of c.in-Pas
 returns : tie.Need-returns-then-counts_fit
 unfolding refusal_of recover_refusal or_else first_refusal
 returns c =
-    let t = c.before.before in
     rw (
-      ← t.admit_cells.ensures,
-      t.in-Pass.is,
+      ← c.admit_cells.ensures,
+      c.in-Pass.is,
       ← c.counts_fit.ensures,
       c.if-counts_fit.true,
     )
@@ -25,10 +24,9 @@ returns c =
 returns-2 : tie.Need-returns-else-counts_fit
 unfolding refusal_of recover_refusal or_else first_refusal
 returns-2 c =
-    let t = c.before.before in
     rw (
-      ← t.admit_cells.ensures,
-      t.in-Pass.is,
+      ← c.admit_cells.ensures,
+      c.in-Pass.is,
       ← c.counts_fit.ensures,
       c.if-counts_fit.false,
     )

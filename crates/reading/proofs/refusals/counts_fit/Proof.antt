@@ -25,17 +25,14 @@ first c = ap (λ (at : ℕ). at + 1) c.physical_cell-messages.ensures.is
 
 returns : tie.Need-returns-then-not-at_most
 returns c =
-    let m = c.before.before in
-    let tested = rw m.process_cells.ensures.is at c.at_most.ensures in
-    messages_over (sized (start m.before)) (first m.before) tested (not-true _ c.if-not-at_most.true-raw)
+    let tested = rw c.process_cells.ensures.is at c.at_most.ensures in
+    messages_over (sized (start c.before.before.before)) (first c.before.before.before) tested (not-true _ c.if-not-at_most.true-raw)
 
 returns-2 : tie.Need-returns
 unfolding stored_line cell
 returns-2 c =
-    let e = c.before.before in
-    let m = e.before.before in
-    let tested = rw m.process_cells.ensures.is at e.at_most.ensures in
-    messages_fit (sized (start m.before)) (first m.before) tested (not-false _ e.if-not-at_most.false-raw)
+    let tested = rw c.process_cells.ensures.is at c.at_most.ensures in
+    messages_fit (sized (start c.before.before.before.before.before)) (first c.before.before.before.before.before) tested (not-false _ c.if-not-at_most.false-raw)
     c.channel_count_cell-channels.ensures.is c.at_most-2.ensures
 
 pub counts_fit_spec : {M : Type 1} → statement M

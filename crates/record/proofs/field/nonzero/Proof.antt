@@ -6,11 +6,11 @@ use Rattle.record.proofs.field.nonzero.Tie as tie
 
 zero : tie.Need-returns-then-value-eq0
 unfolding absent
-zero c = simp (eq-eqb _ 0 c.if-value-eq0.true)
+zero c = simp (eq-eqb c.args.value 0 c.if-value-eq0.true)
 
 other : tie.Need-returns-else-value-eq0
 unfolding absent
-other c = simp (ne_eqb _ 0 c.if-value-eq0.false)
+other c = simp (ne_eqb c.args.value 0 c.if-value-eq0.false)
 
 pub nonzero_spec : {M : Type 1} → statement M
 nonzero_spec = tie.close (tie.spec zero other)

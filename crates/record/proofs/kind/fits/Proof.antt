@@ -32,32 +32,29 @@ channel-more c =
 
 -- the kinds 4 and 5
 module _ (c : tie.In-4-to-5) where
-  abbrev rest : tie.In_default-1
-  rest = c.before.before
-
-  four : 4 ≤ rest.args.kind
+  four : 4 ≤ c.args.kind
   four =
-      let (((_, not-1), not-2-or-6), not-3) = rest.in_default-1.rest in
-      let not-2 : rest.args.kind ≡ 2 → ⊥ = λ e. not-2-or-6 (inl e) in
-      omega (arith, c.if-kind-lt1.false)
+      let (((_, not-1), not-2-or-6), not-3) = c.in-4-to-5.in_default-own.rest in
+      let not-2 : c.args.kind ≡ 2 → ⊥ = λ e. not-2-or-6 (inl e) in
+      omega (arith, c.in-4-to-5.if-kind-lt1-own.false)
 
 process-alone : tie.Need-returns-then-channel-eq0
 unfolding absent
 process-alone c =
-    let k = c.before in
-    sym (process_rows (given (rest k).before) (four k) k.in-4-to-5.if-kind-lt6-own.true ∙ rw (eq-eqb _ 0 c.if-channel-eq0.true))
+    sym (process_rows (given c.before.before) (four c.before) c.in-4-to-5.if-kind-lt6-own.true
+    ∙ rw (eq-eqb _ 0 c.if-channel-eq0.true))
 
 process-more : tie.Need-returns-else-channel-eq0
 unfolding absent
 process-more c =
-    let k = c.before in
-    sym (process_rows (given (rest k).before) (four k) k.in-4-to-5.if-kind-lt6-own.true ∙ rw (ne_eqb _ 0 c.if-channel-eq0.false))
+    sym (process_rows (given c.before.before) (four c.before) c.in-4-to-5.if-kind-lt6-own.true
+    ∙ rw (ne_eqb _ 0 c.if-channel-eq0.false))
 
 low : tie.Need-returns-in_default
-low c = sym (no_row (given c.before.before) (inl c.if-kind-lt1.true))
+low c = sym (no_row (given c.before) (inl c.in_default.if-kind-lt1-own.true))
 
 high : tie.Need-returns-in_default-2
-high c = sym (no_row (given c.before.before) (inr c.in_default.if-kind-lt10-own.false))
+high c = sym (no_row (given c.before) (inr (omega arith)))
 
 -- the kinds 3, 7, 8 and 9
 row : (m : tie.In-3-2)
@@ -66,8 +63,10 @@ row : (m : tie.In-3-2)
 row m =
     let kind = m.args.kind in
     plain_rows (given m.before)
-    (⊎_elim (λ w. inl w.keys3)
-    (λ w. let not-6 : kind ≡ 6 → ⊥ = λ e. w.0.rest.0.1 (inr e) in inr (omega arith, w.3.taken))
+    (⊎_elim (λ w. inl w.in-3-1.keys3)
+    (λ w.
+    let not-6 : kind ≡ 6 → ⊥ = λ e. w.in_default-1.rest.0.1 (inr e) in
+    inr (omega (arith, w.if-kind-lt6-1.false), omega arith))
     m.in-3-1.branch-raw)
 
 plain-alone : tie.Need-returns-then-channel-eq0-2

@@ -3,7 +3,6 @@ use borrow.Author.Rules.{rules}
 use mathlib.Core.Path.{◌≡◌, sym, ap, ◌∙◌}
 use mathlib.Core.Bool.{true}
 use mathlib.Core.Option.{Option}
-use borrow.Author.Tests.{not-true, not-false}
 use Rattle.model.specs.declared.Record.{Record}
 use Rattle.model.specs.Record.{Fields, record_of}
 use Rattle.record.specs.StepRead.{step_said}
@@ -16,10 +15,10 @@ abbrev given : tie.Start → Fields
 given s = fields s.args.kind s.args.process s.args.channel s.args.body
 
 there : (c : tie.Else-not-fits) → is_record (record_of (given c.before.before)) ≡ true
-there c = sym c.fits2.ensures ∙ not-false _ c.if-not-fits.false-raw
+there c = sym c.fits.ensures ∙ c.if-not-fits.false
 
 malformed : tie.Need-returns-then-not-fits
-malformed c = none_answers _ (sym c.fits2.ensures ∙ not-true _ c.if-not-fits.true-raw)
+malformed c = none_answers _ (sym c.fits.ensures ∙ c.if-not-fits.true)
 
 recover : tie.Need-returns-then-kind-eq-RECOVER
 unfolding record_of

@@ -1,5 +1,4 @@
 -- `kind::step_of` meets its contract: each arm is the kind's row, and past them no row is.
-use mathlib.Core.Path.{refl}
 use borrow.Author.Tests.{ne_eqb}
 use Rattle.record.specs.StepRead.{step_of, step_in}
 use Rattle.record.proofs.kind.step_of.Statement.{statement}

@@ -56,12 +56,12 @@ body-missing c =
     read.body.ensures c.in_default-body.is))
     c.malformed-in_default-body.ensures
 
-process-fits : tie.Need-overflow-cast-record-of
+process-fits : tie.Need-overflow_cast-process
 process-fits c =
     let p = process-known (channel-known (body-known c)) in
-    omega (arith, (value_within (process-read p).byte.ensures p.before.process.given.1).value)
+    omega (arith, (value_within (process-read p).byte.ensures p.in-Value.is).value)
 
-channel-fits : tie.Need-overflow-cast-record-of-2
+channel-fits : tie.Need-overflow_cast-channel
 channel-fits c =
     let h = channel-known (body-known c) in
     omega (arith, (value_within (channel_read_lem h).byte-2.ensures h.in-Value-byte.is).value)

@@ -14,16 +14,14 @@ short c = unread_parses (rw (too_short _ c.if-bytes-lt2.true)) c.malformed.ensur
 good : tie.Need-returns-then-map-lt-MAPS
 unfolding read_record and_then
 good c =
-    let below = c.before in
-    let odds = below.before in
-    let long = odds.before.before in
-    rw (good_map_lem _ long.if-bytes-lt2.false (odd _ odds.if-map-eq1.true ∙ below.if-map-lt-MAPS.true-raw)) c.fields.ensures
+    rw (good_map_lem _ c.if-bytes-lt2.false (odd _ c.if-map-eq1.true ∙ c.if-map-lt-MAPS.true-raw)) c.fields.ensures
 
 bad : tie.Need-returns-else-map-eq1
 unfolding read_record and_then
 bad c =
     unread_parses
-    (rw (bad_map _ (⊎_elim (λ w. odd _ w.0.taken ∙ w.1.left) (λ w. even _ w.left) c.else-map-eq1.branch-raw)))
+    (rw (bad_map _ (⊎_elim (λ w. odd _ w.if-map-eq1.true ∙ w.if-map-lt-MAPS.false-raw) (λ w. even _ w.if-map-eq1.false)
+    c.else-map-eq1.branch-raw)))
     c.malformed-else-map-eq1.ensures
 
 pub parse_spec : {M : Type 1} → statement M

@@ -18,55 +18,54 @@ use Rattle.reading.proofs.Whole.{channel_given}
 use Rattle.recovery.proofs.start.channels.Statement.{statement}
 use Rattle.recovery.proofs.start.channels.Tie as tie
 
-abbrev invariant-loop : tie.invariant-loop
+abbrev invariant-loop : tie.invariant-loop-c
 invariant-loop topology store places₀ lengths₀ c₀ places lengths c =
     (c ≤ topology.channels)
     × (length places ≡ channel_limit)
     × (length lengths ≡ channel_limit)
     × (entries_in places lengths ≡ filled_below c (channel_of store) [])
 
-abbrev decreases-loop : tie.decreases-loop
+abbrev decreases-loop : tie.decreases-loop-c
 decreases-loop topology store places₀ lengths₀ c₀ places lengths c = topology.channels - c
 
 -- where a turn begins, and its channel
-abbrev start : tie.Then1 invariant-loop decreases-loop → tie.Start invariant-loop decreases-loop
+abbrev start : tie.In-loop-c invariant-loop decreases-loop → tie.Start invariant-loop decreases-loop
 start t = t.before.before.before.before.before.before
 
-abbrev at : tie.Then1 invariant-loop decreases-loop → ℕ
-at t = t.before.before.loop.c
+abbrev at : tie.In-loop-c invariant-loop decreases-loop → ℕ
+at t = t.loop-c.c
 
-inside : (t : tie.Then1 invariant-loop decreases-loop) → at t < channel_limit
+inside : (t : tie.In-loop-c invariant-loop decreases-loop) → at t < channel_limit
 inside t =
     let a = (start t).args in
-    omega (arith, t.if1.true, (readable present a.topology a.store.now (start t).requires).sized.channels)
+    omega (arith, t.loop-c-test.true, (readable present a.topology a.store.now (start t).requires).sized.channels)
 
-loop-holds : tie.Need-loop-init invariant-loop decreases-loop
+loop-holds : tie.Need-loop-c-init invariant-loop decreases-loop
 loop-holds c =
-    let st = c.before.before.before.args.store.now in
-    (omega arith, refl, refl, no_entries (replicate channel_limit c.places.result) ∙ filled_none (channel_of st) [])
+    let st = c.args.store.now in
+    (omega arith, refl, refl, no_entries (replicate channel_limit c.places-first.result) ∙ filled_none (channel_of st) [])
 
-loop-again : tie.Need-loop-preserved invariant-loop decreases-loop
+loop-again : tie.Need-loop-c-preserved invariant-loop decreases-loop
 loop-again c =
-    let parted = c.before in
-    let x = parted.before.channel2 in
-    let t = parted.before.before in
-    let l = t.before.before.loop in
+    let x = c.channel-held in
+    let t = c.before.before.before in
+    let l = t.loop-c in
     let a = (start t).args in
-    let filled : entries (held parted.places2.result c.used.result) ≡ channel_of a.store.now (at t) =
-    ap₂ (λ (p : Places) (n : ℕ). entries (held p n)) parted.places2.ensures c.used.ensures
-    ∙ channel_given _ a.topology _ (start t).requires _ t.if1.true x.ensures in (
+    let filled : entries (held c.places.result c.used.result) ≡ channel_of a.store.now (at t) =
+    ap₂ (λ (p : Places) (n : ℕ). entries (held p n)) c.places.ensures c.used.ensures
+    ∙ channel_given _ a.topology _ (start t).requires _ t.loop-c-test.true x.ensures in (
       omega arith,
       simp length-set l.invariant.1,
       simp length-set l.invariant.2,
       filled_both (λ (p : Places) (n : ℕ). entries (held p n)) l.places l.lengths no_places
-          parted.places2.result 0 c.used.result (at t) (channel_of a.store.now) []
+          c.places.result 0 c.used.result (at t) (channel_of a.store.now) []
           (omega (arith, l.invariant.1, inside t)) (omega (arith, l.invariant.2, inside t)) l.invariant.3 filled,
     )
 
 returns : tie.Need-returns invariant-loop decreases-loop
 returns c =
-    let l = c.before.before.loop in
-    let a = c.before.before.before.before.before.before.args in
+    let l = c.loop-c in
+    let a = c.args in
     let e : l.c ≡ a.topology.channels = omega arith in
     rw e at l.invariant.3 ∙ channels_below a.topology a.store.now
 

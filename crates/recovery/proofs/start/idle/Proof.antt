@@ -9,7 +9,7 @@ use Rattle.recovery.proofs.start.idle.Tie as tie
 
 returns : tie.Need-returns
 unfolding view idle_state
-returns c = simp (seen_replicate process_limit false, c.before.flags.ensures, c.counts.ensures)
+returns c = simp (seen_replicate process_limit false, c.flags-flags.ensures, c.counts-counts.ensures)
 
 pub idle_spec : {M : Type 1} → statement M
 idle_spec = tie.close (tie.spec (λ c κs. search rules) (λ c κs. search rules) returns)

@@ -9,8 +9,8 @@ use Rattle.recovery.proofs.start.initial.Tie as tie
 
 returns : tie.Need-returns
 returns c =
-    c.idle.ensures ∙ initial_state c.before.before.args.topology
-    (replicate channel_limit c.before.blank.result)
+    c.idle.ensures ∙ initial_state c.args.topology
+    (replicate channel_limit c.blank-blank.result)
 
 pub initial_spec : {M : Type 1} → statement M
 initial_spec = tie.close (tie.spec (λ c κs. search rules) (λ c κs. search rules) returns)

@@ -1,5 +1,5 @@
 -- `recovery::start::refused` meets its contract.
-use mathlib.Core.Path.{refl, ap, ◌∙◌}
+use mathlib.Core.Path.{refl}
 use borrow.Author.Rules.{rules}
 use Rattle.model.specs.State.{blank_state}
 use Rattle.recovery.proofs.start.refused.Statement.{statement}
@@ -7,7 +7,7 @@ use Rattle.recovery.proofs.start.refused.Tie as tie
 
 returns : tie.Need-returns
 unfolding blank_state
-returns c = (refl, rw c.before.topology.ensures at c.initial.ensures)
+returns c = (refl, rw c.topology.ensures at c.initial-state.ensures)
 
 pub refused_spec : {M : Type 1} → statement M
 refused_spec = tie.close (tie.spec (λ c κs. search rules) (λ c κs. search rules) returns)

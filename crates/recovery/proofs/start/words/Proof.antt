@@ -14,50 +14,49 @@ use Rattle.reading.proofs.Whole.{word_given}
 use Rattle.recovery.proofs.start.words.Statement.{statement}
 use Rattle.recovery.proofs.start.words.Tie as tie
 
-abbrev invariant-loop : tie.invariant-loop
+abbrev invariant-loop : tie.invariant-loop-p
 invariant-loop topology store r₀ p₀ r p =
     (p ≤ topology.processes)
     × (length r ≡ process_limit)
     × ((λ (i : ℕ). get_or r i 0) ≡ filled_below p (word_of topology store) 0)
 
-abbrev decreases-loop : tie.decreases-loop
+abbrev decreases-loop : tie.decreases-loop-p
 decreases-loop topology store r₀ p₀ r p = topology.processes - p
 
 -- where a turn begins, and its process
-abbrev start : tie.Then1 invariant-loop decreases-loop → tie.Start invariant-loop decreases-loop
+abbrev start : tie.In-loop-p invariant-loop decreases-loop → tie.Start invariant-loop decreases-loop
 start t = t.before.before.before.before
 
-abbrev at : tie.Then1 invariant-loop decreases-loop → ℕ
-at t = t.before.before.loop.p
+abbrev at : tie.In-loop-p invariant-loop decreases-loop → ℕ
+at t = t.loop-p.p
 
-inside : (t : tie.Then1 invariant-loop decreases-loop) → at t < process_limit
+inside : (t : tie.In-loop-p invariant-loop decreases-loop) → at t < process_limit
 inside t =
     let a = (start t).args in
-    omega (arith, t.if1.true, (readable present a.topology a.store.now (start t).requires).sized.processes)
+    omega (arith, t.loop-p-test.true, (readable present a.topology a.store.now (start t).requires).sized.processes)
 
-loop-holds : tie.Need-loop-init invariant-loop decreases-loop
+loop-holds : tie.Need-loop-p-init invariant-loop decreases-loop
 loop-holds c =
-    let a = c.before.args in
+    let a = c.args in
     (omega arith, refl, seen_replicate process_limit 0 ∙ filled_none (word_of a.topology a.store.now) 0)
 
-loop-again : tie.Need-loop-preserved invariant-loop decreases-loop
+loop-again : tie.Need-loop-p-preserved invariant-loop decreases-loop
 unfolding is_late
 loop-again c =
-    let asked = c.before in
-    let t = asked.before in
-    let l = t.before.before.loop in
+    let t = c.before.before in
+    let l = t.loop-p in
     let a = (start t).args in (
       omega arith,
       simp length-set l.invariant.1,
       filled_more (λ x. x) l.r 0 c.word.result (at t) (word_of a.topology a.store.now) 0
           (omega (arith, l.invariant.1, inside t)) l.invariant.2
-          (word_given _ a.topology _ (start t).requires _ t.if1.true asked.is-late.ensures c.word.ensures),
+          (word_given _ a.topology _ (start t).requires _ t.loop-p-test.true c.is_late-late.ensures c.word.ensures),
     )
 
 returns : tie.Need-returns invariant-loop decreases-loop
 returns c =
-    let l = c.before.before.loop in
-    let a = c.before.before.before.before.args in
+    let l = c.loop-p in
+    let a = c.args in
     let e : l.p ≡ a.topology.processes = omega arith in
     rw e at l.invariant.2 ∙ words_below a.topology a.store.now
 

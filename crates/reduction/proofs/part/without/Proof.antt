@@ -10,56 +10,55 @@ use Rattle.reduction.proofs.Parts.{Filled, none_filled, one_filled, part_filled,
 use Rattle.reduction.proofs.part.without.Statement.{statement}
 use Rattle.reduction.proofs.part.without.Tie as tie
 
-abbrev invariant-loop : tie.invariant-loop
+abbrev invariant-loop : tie.invariant-loop-i
 invariant-loop from to part gap count places₀ i₀ places i = Filled (without_block from to (kept part)) places i
 
-abbrev decreases-loop : tie.decreases-loop
+abbrev decreases-loop : tie.decreases-loop-i
 decreases-loop from to part gap count places₀ i₀ places i = count - i
 
 -- what the function is given
 module _ (c : tie.Start invariant-loop decreases-loop) where
-  abbrev held : Held c.args.t1
+  abbrev held : Held c.args.part
   held = c.requires.2
 
   abbrev rest : List ℕ
-  rest = without_block c.args.from c.args.to (kept c.args.t1)
+  rest = without_block c.args.from c.args.to (kept c.args.part)
 
-  block : c.args.to ≤ length (kept c.args.t1)
+  block : c.args.to ≤ length (kept c.args.part)
   block = rw (kept_length held) c.requires.1
 
-  rest_length : length rest ≡ c.args.t1.count - (c.args.to - c.args.from)
+  rest_length : length rest ≡ c.args.part.count - (c.args.to - c.args.from)
   rest_length =
-      without_length (kept c.args.t1) c.args.from c.args.to c.requires.0 block ∙ rw (kept_length held)
+      without_length (kept c.args.part) c.args.from c.args.to c.requires.0 block ∙ rw (kept_length held)
 
-abbrev start : tie.In-loop invariant-loop decreases-loop → tie.Start invariant-loop decreases-loop
+abbrev start : tie.In-loop-i invariant-loop decreases-loop → tie.Start invariant-loop decreases-loop
 start c = c.before.before
 
 -- the place that is looked at is one of the part's
-looked : (c : tie.After-past invariant-loop decreases-loop) → c.past.result < (start c.before).args.t1.count
+looked : (c : tie.After-past invariant-loop decreases-loop) → c.past.result < (start c.before).args.part.count
 looked c =
     let s = start c.before in
     rw c.past.ensures
-    (past_within s.args.from (s.args.to - s.args.from) s.args.t1.count c.before.before.loop.i
-    c.before.loop-test.true)
+    (past_within s.args.from (s.args.to - s.args.from) s.args.part.count c.loop-i.i
+    c.loop-i-test.true)
 
-loop-again : tie.Need-loop-preserved invariant-loop decreases-loop
+loop-again : tie.Need-loop-i-preserved invariant-loop decreases-loop
 loop-again c =
-    let at = c.before.before.before in
-    let s = at.before in
-    let xs = kept s.args.t1 in
+    let s = c.before.before.before.before in
+    let xs = kept s.args.part in
     let from = s.args.from in
     let to = s.args.to in
-    let i = at.loop.i in
-    let here : get_or (rest s) i 0 ≡ get_or s.args.t1.places c.before.past.result 0 =
+    let i = c.loop-i.i in
+    let here : get_or (rest s) i 0 ≡ get_or s.args.part.places c.past.result 0 =
     without_at xs from to s.requires.0 (block s) i
-    ∙ rw (← c.before.past.ensures) (kept_at (held s) _ (looked c.before)) in
-    one_filled at.loop.invariant (rw (rest_length s) c.before.before.loop-test.true)
-    (omega (arith, at.loop.invariant.room, rest_length s, (held s).within)) (sym here)
+    ∙ rw (← c.past.ensures) (kept_at (held s) _ (looked c.before)) in
+    one_filled c.loop-i.invariant (rw (rest_length s) c.loop-i-test.true)
+    (omega (arith, c.loop-i.invariant.room, rest_length s, (held s).within)) (sym here)
 
 returns : tie.Need-returns invariant-loop decreases-loop
 returns c =
     let s = c.before.before in
-    part_filled c.before.loop.invariant (rw (rest_length s) c.loop-test.false)
+    part_filled c.loop-i.invariant (rw (rest_length s) c.loop-i-test.false)
     (rw (rest_length s) (omega (arith, (held s).within))) (sym (rest_length s))
 
 pub without_spec : {M : Type 1} → statement M

@@ -15,25 +15,25 @@ use Rattle.reduction.proofs.Wholes.{place_within}
 use Rattle.reduction.proofs.replay.fails.Statement.{statement}
 use Rattle.reduction.proofs.replay.fails.Tie as tie
 
-through : tie.Need-returns
+through : tie.Need-returns-in_default
 unfolding ends_with first_failure
-through c = rw (sym c.before.before.replay.ensures.end ∙ ap end_of c.enum_told.given.1)
+through c = rw (sym c.replay-replayed.ensures.end ∙ ap end_of c.in_default.is)
 
 -- where a call was refused
-module _ (c : tie.After-known-told) where
+module _ (c : tie.In-Refused) where
   abbrev start : tie.Start
-  start = c.before.before.before.before
+  start = c.before.before
 
   abbrev failure : Failure
-  failure = record { place = c.before.end.given.0.0; number = refusal_number c.before.end.given.0.1.0 }
+  failure = record { place = c.in-Refused.i; number = refusal_number c.in-Refused.r }
 
   found : first_failure start.args.topology (calls start.args.list start.args.part) ≡ some failure
   unfolding first_failure
-  found = sym c.before.before.before.replay.ensures.end ∙ ap end_of c.before.end.given.1
+  found = sym c.replay-replayed.ensures.end ∙ ap end_of c.in-Refused.is
 
   place : failure.place < start.args.part.count
   place =
-      rw (length-map, kept_length start.pre) at
+      rw (length-map, kept_length start.requires) at
       (place_within start.args.topology (calls start.args.list start.args.part) failure found)
 
 -- what is found, at the last call or before it
@@ -46,15 +46,15 @@ module _ (f : Failure) (count n : ℕ) where
   unfolding ends_with
   at_other e = rw (ne_eqb _ _ e)
 
-last : tie.Need-returns-2
+last : tie.Need-returns-then-i-part
 last c =
     let d = c.before.before.before.before in
     rw (found d)
-    (ap₂ eqb c.before.number.ensures c.number2.ensures
-    ∙ at_last (failure d) _ _ c.before.before.if1.true)
+    (ap₂ eqb c.number.ensures c.number-then-i-part.ensures
+    ∙ at_last (failure d) _ _ c.if-i-part.true)
 
-before : tie.Need-returns-3
-before c = let d = c.before.before in rw (found d) (at_other (failure d) _ _ c.if1.false)
+before : tie.Need-returns-else-i-part
+before c = let d = c.before.before in rw (found d) (at_other (failure d) _ _ c.if-i-part.false)
 
 pub fails_spec : {M : Type 1} → statement M
 fails_spec =

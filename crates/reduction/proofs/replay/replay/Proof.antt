@@ -8,9 +8,8 @@ use Rattle.reduction.proofs.replay.replay.Tie as tie
 returns : tie.Need-returns
 unfolding first_failure replies first_world
 returns c =
-    let ran = c.before in
-    let started = ran.before.before.before.before.initialize.ensures in
-    rw (started.state, started.store) at ran.run.ensures
+    let started = c.initialize-started.ensures in
+    rw (started.state, started.store) at c.run.ensures
 
 pub replay_spec : {M : Type 1} → statement M
 replay_spec =

@@ -10,4 +10,4 @@ verdict_spec =
     tie.close
     (tie.spec (λ c. search rules) (λ c. search rules) (λ c. search rules) (λ c. search rules) (λ c. search rules)
     (λ c. search rules) (λ c. search rules) (λ c. search rules) (λ c. search rules) (λ c. search rules)
-    (λ c. rw c.before.outcome.given.1) (λ c. search rules))
+    (λ c. rw c.in-Refused.is) (λ c. search rules))

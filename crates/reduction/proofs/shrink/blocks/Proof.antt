@@ -6,24 +6,24 @@ use Rattle.reduction.proofs.Passing.{last_failure_lem}
 use Rattle.reduction.proofs.shrink.blocks.Statement.{statement}
 use Rattle.reduction.proofs.shrink.blocks.Tie as tie
 
-abbrev invariant-loop : tie.invariant-loop
+abbrev invariant-loop : tie.invariant-loop-size
 invariant-loop topology list refusal part₀ size₀ part size = Failing topology list (last_failure part₀ refusal) part
 
-abbrev decreases-loop : tie.decreases-loop
+abbrev decreases-loop : tie.decreases-loop-size
 decreases-loop topology list refusal part₀ size₀ part size = size
 
 -- the part's last call stands for the whole's failure
-same_failure : (c : tie.In-loop invariant-loop decreases-loop)
-    → let start = c.before.before in
-    last_failure c.before.loop.part start.args.refusal ≡ last_failure start.args.whole start.args.refusal
-same_failure c = last_failure_lem c.before.loop.invariant c.before.before.args.refusal refl
+same_failure : (c : tie.In-loop-size invariant-loop decreases-loop)
+    →
+    last_failure c.loop-size.part c.args.refusal ≡ last_failure c.args.whole c.args.refusal
+same_failure c = last_failure_lem c.loop-size.invariant c.args.refusal refl
 
-smaller : tie.Need-loop-smaller invariant-loop decreases-loop
+smaller : tie.Need-loop-size-smaller invariant-loop decreases-loop
 smaller c = omega arith
 
 pub blocks_spec : {M : Type 1} → statement M
 blocks_spec =
     tie.close
     (tie.spec invariant-loop decreases-loop (λ c. c.requires)
-    (λ c κs. (rw (same_failure c) c.before.loop.invariant, omega arith)) smaller
-    (λ c. rw (same_failure c.before) at c.pass.ensures.failing) (λ c. c.before.loop.invariant))
+    (λ c κs. (rw (same_failure c) c.loop-size.invariant, omega arith)) smaller
+    (λ c. rw (same_failure c.before) at c.pass-part.ensures.failing) (λ c. c.loop-size.invariant))

@@ -6,12 +6,11 @@ use Rattle.reduction.proofs.shrink.shrink.Statement.{statement}
 use Rattle.reduction.proofs.shrink.shrink.Tie as tie
 
 singles-requires : tie.Need-singles-requires
-singles-requires c κs = rw (last_failure_lem c.blocks2.ensures c.before.args.refusal refl) c.blocks2.ensures
+singles-requires c κs = rw (last_failure_lem c.blocks-part.ensures c.args.refusal refl) c.blocks-part.ensures
 
 returns : tie.Need-returns
 returns c =
-    let b = c.before in
-    rw (last_failure_lem b.blocks2.ensures b.before.args.refusal refl) at c.singles.ensures
+    rw (last_failure_lem c.blocks-part.ensures c.args.refusal refl) at c.singles.ensures
 
 pub shrink_spec : {M : Type 1} → statement M
 shrink_spec = tie.close (tie.spec (λ c κs. search rules) singles-requires returns)

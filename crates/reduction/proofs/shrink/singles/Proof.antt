@@ -18,11 +18,11 @@ record Passes (T : Topology) (list : CallList) (f : Failure) (before : ℕ) (par
   fewer : part.count ≤ before
   lost : part.count ≡ before → LostFrom T list f part 0
 
-abbrev invariant-loop : tie.invariant-loop
+abbrev invariant-loop : tie.invariant-loop-part
 invariant-loop topology list refusal before₀ part₀ before part =
     Passes topology list (last_failure part₀ refusal) before part
 
-abbrev decreases-loop : tie.decreases-loop
+abbrev decreases-loop : tie.decreases-loop-part
 decreases-loop topology list refusal before₀ part₀ before part = before
 
 -- what a pass over single calls makes of the invariant
@@ -31,28 +31,28 @@ passed : {T : Topology} {list : CallList} {f : Failure} {whole part : Part} → 
 passed p = record { failing = p.failing; fewer = p.fewer; lost = p.lost refl }
 
 -- after the first pass: the part's last call stands for the whole's failure
-first_failure_lem : (c : tie.After-pass invariant-loop decreases-loop)
-    → last_failure c.pass.result c.before.args.refusal
-    ≡ last_failure c.before.args.whole c.before.args.refusal
-first_failure_lem c = last_failure_lem c.pass.ensures.failing c.before.args.refusal refl
+first_failure_lem : (c : tie.After-pass-part invariant-loop decreases-loop)
+    → last_failure c.pass-part.result c.args.refusal
+    ≡ last_failure c.args.whole c.args.refusal
+first_failure_lem c = last_failure_lem c.pass-part.ensures.failing c.args.refusal refl
 
-starts : tie.Need-loop-init invariant-loop decreases-loop
-starts c = rw (first_failure_lem c) (passed c.pass.ensures)
+starts : tie.Need-loop-part-init invariant-loop decreases-loop
+starts c = rw (first_failure_lem c) (passed c.pass-part.ensures)
 
 -- and in the loop
-module _ (c : tie.Then1 invariant-loop decreases-loop) where
-  abbrev at-loop : tie.At-loop invariant-loop decreases-loop
+module _ (c : tie.In-loop-part invariant-loop decreases-loop) where
+  abbrev at-loop : tie.At-loop-part invariant-loop decreases-loop
   at-loop = c.before.before
 
   abbrev refusal : Refusal
-  refusal = at-loop.before.before.args.refusal
+  refusal = at-loop.args.refusal
 
-  same_failure : last_failure at-loop.loop.part refusal ≡ last_failure at-loop.before.pass.result refusal
-  same_failure = last_failure_lem at-loop.loop.inv.failing refusal refl
+  same_failure : last_failure at-loop.loop-part.part refusal ≡ last_failure at-loop.pass-part.result refusal
+  same_failure = last_failure_lem at-loop.loop-part.invariant.failing refusal refl
 
 returns : tie.Need-returns invariant-loop decreases-loop
 returns c =
-    let inv = c.before.before.loop.invariant in
+    let inv = c.loop-part.invariant in
     let first = c.before.before.before in (
       inv.failing.held,
       rw (first_failure_lem first) at (smallest inv.failing (inv.lost (omega (arith, inv.fewer)))),
@@ -62,5 +62,5 @@ pub singles_spec : {M : Type 1} → statement M
 singles_spec =
     tie.close
     (tie.spec invariant-loop decreases-loop (λ c κs. (c.requires, omega arith)) starts
-    (λ c κs. (rw (same_failure c) (at-loop c).loop.invariant.failing, omega arith)) (λ c. omega arith)
-    (λ c. rw (same_failure c.before) at (passed c.pass2.ensures)) returns)
+    (λ c κs. (rw (same_failure c) (at-loop c).loop-part.invariant.failing, omega arith)) (λ c. omega arith)
+    (λ c. rw (same_failure c.before) at (passed c.pass-part-in-loop-part.ensures)) returns)

@@ -15,26 +15,24 @@ use Rattle.report.proofs.cells.changed.Statement.{statement}
 use Rattle.report.proofs.cells.changed.Tie as tie
 
 abbrev invariant-loop : tie.invariant-loop-i
-invariant-loop store out₀ at next₀ i₀ out next i = Appended cell_bytes store_cells (changed_line store) out₀ at i out next
+invariant-loop store out₀ at next₀ i₀ out next i =
+    Appended cell_bytes store_cells (changed_line store) out₀ at i out next
 
 abbrev decreases-loop : tie.decreases-loop-i
 decreases-loop store out₀ at next₀ i₀ out next i = store_cells - i
 
 loop-again : tie.Need-loop-i-preserved invariant-loop decreases-loop
 loop-again c =
-    let k = c.before in
-    let inside = k.before.before in
-    let at = inside.before in
-    let store = at.args.store.now in
-    let begins = k.start_cell.ensures in
+    let store = c.args.store.now in
+    let begins = c.start_cell.ensures in
     ⊎_elim
     (λ w.
-    let line = other_cell store at.loop-i.i (λ e. w.0.taken (e ∙ sym begins)) in
-    rw (w.5, w.6) (one_appended at.loop-i.invariant inside.loop-i-test.true (rw line w.2.ensures)))
+    let line = other_cell store c.loop-i.i (λ e. w.if-value-start_cell.true (e ∙ sym begins)) in
+    rw (w.out-is, w.next-is) (one_appended c.loop-i.invariant c.loop-i-test.true (rw line w.cell_line-next.ensures)))
     (λ w.
-    let none = same_cell store at.loop-i.i (w.0.left ∙ begins) in
-    rw (w.1, w.2)
-    (one_appended at.loop-i.invariant inside.loop-i-test.true (rw none (at_most (nothing _ _) (omega arith)))))
+    let none = same_cell store c.loop-i.i (w.if-value-start_cell.false ∙ begins) in
+    rw (w.out-is, w.next-is)
+    (one_appended c.loop-i.invariant c.loop-i-test.true (rw none (at_most (nothing _ _) (omega arith)))))
     c.if-value-start_cell.branch-raw
 
 returns : tie.Need-returns invariant-loop decreases-loop
@@ -44,6 +42,6 @@ returns c = all_appended c.loop-i.invariant c.loop-i-test.false
 pub changed_spec : {M : Type 1} → statement M
 changed_spec =
     tie.close
-    (tie.spec invariant-loop decreases-loop (λ c. none_appended) (λ c. search rules) (λ c. search rules) (λ c κs. search rules)
-    (λ c. search rules) (λ c κs. search rules) (λ c. search rules) (λ c. search rules) loop-again
+    (tie.spec invariant-loop decreases-loop (λ c. none_appended) (λ c. search rules) (λ c. search rules)
+    (λ c κs. search rules) (λ c. search rules) (λ c κs. search rules) (λ c. search rules) (λ c. search rules) loop-again
     (λ c. kept_length c.loop-i.invariant) returns)

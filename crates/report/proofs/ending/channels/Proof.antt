@@ -48,6 +48,6 @@ loop-again c =
 pub channels_spec : {M : Type 1} → statement M
 channels_spec =
     tie.close
-    (tie.spec invariant-loop decreases-loop (λ c. none_appended) (λ c κs. search rules) (λ c. search rules) (λ c κs. search rules)
-    (λ c. search rules) (λ c. search rules) loop-again (λ c. kept_length c.loop-c.invariant)
+    (tie.spec invariant-loop decreases-loop (λ c. none_appended) (λ c κs. search rules) (λ c. search rules)
+    (λ c κs. search rules) (λ c. search rules) (λ c. search rules) loop-again (λ c. kept_length c.loop-c.invariant)
     (λ c. all_appended c.loop-c.invariant c.loop-c-test.false))

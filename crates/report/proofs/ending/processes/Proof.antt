@@ -26,6 +26,6 @@ loop-again c =
 pub processes_spec : {M : Type 1} → statement M
 processes_spec =
     tie.close
-    (tie.spec invariant-loop decreases-loop (λ c. none_appended) (λ c. search rules) (λ c κs. search rules) (λ c κs. search rules)
-    (λ c. search rules) (λ c. search rules) loop-again (λ c. kept_length c.loop-p.invariant)
+    (tie.spec invariant-loop decreases-loop (λ c. none_appended) (λ c. search rules) (λ c κs. search rules)
+    (λ c κs. search rules) (λ c. search rules) (λ c. search rules) loop-again (λ c. kept_length c.loop-p.invariant)
     (λ c. all_appended c.loop-p.invariant c.loop-p-test.false))

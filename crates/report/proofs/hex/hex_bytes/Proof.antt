@@ -21,10 +21,10 @@ record Shown (bytes : List ℕ) (i : ℕ) (before : List ℕ) (at : ℕ) (after 
   text : Appends (hex_bytes_bytes i) before at (hex_bytes (take i bytes)) after r
 
 abbrev invariant-loop : tie.invariant-loop-i
-invariant-loop out₀ at bytes next₀ i₀ t6 out next i = Shown bytes i out₀ at out next
+invariant-loop out₀ at bytes next₀ i₀ out next i = Shown bytes i out₀ at out next
 
 abbrev decreases-loop : tie.decreases-loop-i
-decreases-loop out₀ at bytes next₀ i₀ t6 out next i = length bytes - i
+decreases-loop out₀ at bytes next₀ i₀ out next i = length bytes - i
 
 loop-holds : tie.Need-loop-i-init invariant-loop decreases-loop
 unfolding hex_bytes
@@ -32,26 +32,24 @@ loop-holds c = record { places = omega arith; text = nothing _ _ }
 
 loop-again : tie.Need-loop-i-preserved invariant-loop decreases-loop
 loop-again c =
-    let byte = c.before.before in
-    let joined = byte.before.before.before in
-    let at = joined.before.before in
-    let l = at.loop-i in
-    let args = at.args in
+    let joined = c.if-i-gt0 in
+    let l = c.loop-i in
+    let args = c.args in
     let bytes = args.bytes.now in
     let inside : l.i < length bytes = omega arith in
     let others : ℕ → List ℕ → Type 0 =
-    λ most text. Appends most args.out.now args.at text joined.if-i-gt0.out joined.if-i-gt0.next in
+    λ most text. Appends most args.out.now args.at text joined.out joined.next in
     ⊎_elim
     (λ w.
     let first : others (hex_bytes_bytes l.i + 1) (hex_bytes (take l.i bytes) ++ chars " ") =
-    rw (w.6, w.7) (l.invariant.text then w.3.ensures) in
-    let more = next_byte bytes l.i inside w.0.taken in
-    record { places = omega arith; text = rw more (at_most (first then byte.hex_byte-next.ensures) (omega arith)) })
+    rw (w.out-is, w.next-is) (l.invariant.text then w.bytes-next.ensures) in
+    let more = next_byte bytes l.i inside w.if-i-gt0.true in
+    record { places = omega arith; text = rw more (at_most (first then c.hex_byte-next.ensures) (omega arith)) })
     (λ w.
-    let first : others (hex_bytes_bytes l.i) (hex_bytes (take l.i bytes)) = rw (w.1, w.2) l.invariant.text in
-    let more = first_byte bytes l.i inside (omega (arith, w.0.left)) in
-    record { places = omega arith; text = rw more (at_most (first then byte.hex_byte-next.ensures) (omega arith)) })
-    joined.if-i-gt0.branch-raw
+    let first : others (hex_bytes_bytes l.i) (hex_bytes (take l.i bytes)) = rw (w.out-is, w.next-is) l.invariant.text in
+    let more = first_byte bytes l.i inside (omega (arith, w.if-i-gt0.false)) in
+    record { places = omega arith; text = rw more (at_most (first then c.hex_byte-next.ensures) (omega arith)) })
+    joined.branch-raw
 
 returns : tie.Need-returns invariant-loop decreases-loop
 returns c =

@@ -1,5 +1,5 @@
 -- `rules::channel::push` meets its contract: each entry's kind and body mean that entry.
-use Rattle.std.proofs.Common.{◌≡◌, ℕ, ◌<◌, [], ◌∷◌, ◌++◌, length, refl, ◌∙◌, arith, rules, le-ltb, lt-ltb}
+use Rattle.std.proofs.Common.{◌≡◌, ℕ, ◌<◌, [], ◌∷◌, ◌++◌, length, ◌∙◌, arith, rules, le-ltb, lt-ltb}
 use Rattle.model.specs.declared.Channel.{Channel}
 use Rattle.model.specs.declared.Entry.{Entry}
 use Rattle.model.specs.Channel.{array_places, entry_of, entries}

@@ -33,16 +33,13 @@ loop-holds c = record { start = omega arith; over = λ q a b. absurd (omega arit
 found : tie.Need-returns-then-not-is_late invariant-loop decreases-loop
 unfolding phase_at
 found c =
-    let asked = c.before in
-    let turn = asked.before in
-    let l = turn.loop-p in
-    rw (early_at _ _ _ l.p l.invariant.over l.invariant.start turn.loop-p-test.true
-    (sym asked.is_late.ensures ∙ not-true _ c.if-not-is_late.true-raw))
+    let l = c.loop-p in
+    rw (early_at _ _ _ l.p l.invariant.over l.invariant.start c.loop-p-test.true
+    (sym c.is_late.ensures ∙ not-true _ c.if-not-is_late.true-raw))
 
 loop-again : tie.Need-loop-p-preserved invariant-loop decreases-loop
 loop-again c =
-    let asked = c.before in
-    one_more asked.loop-p.invariant (sym asked.is_late.ensures ∙ not-false _ c.if-not-is_late.false-raw)
+    one_more c.loop-p.invariant (sym c.is_late.ensures ∙ not-false _ c.if-not-is_late.false-raw)
 
 -- all are late
 none_found : tie.Need-returns invariant-loop decreases-loop

@@ -1,6 +1,5 @@
 -- `rules::layout::slot` meets its contract.
 use Rattle.std.proofs.Common.{rules}
-use Rattle.model.specs.Layout.{slot}
 use Rattle.model.specs.Form as form
 use Rattle.rules.proofs.layout.slot.Statement.{statement}
 use Rattle.rules.proofs.layout.slot.Tie as tie

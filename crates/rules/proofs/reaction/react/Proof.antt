@@ -12,15 +12,12 @@ idle-message c channel = rw (c.logs.ensures, c.in-Idle.is)
 physical-message : tie.Need-returns-in-Physical
 unfolding view_reaction reaction_to logs_only
 physical-message c channel =
-    let told = c in
-    rw (c.logs-in-Physical.ensures, told.in-Physical.is, told.in-Message.is)
+    rw (c.logs-in-Physical.ensures, c.in-Physical.is, c.in-Message.is)
 
 logical-message : tie.Need-returns-in-Logical
 unfolding view_reaction reaction_to
 logical-message c channel =
-    let asked = c.before.before in
-    let told = asked.before.before.before in
-    rw (asked.in_message_log-message_log.ensures, told.in-Logical.is, told.in-Message.is)
+    rw (c.in_message_log-message_log.ensures, c.in-Logical.is, c.in-Message.is)
 
 idle-marker : tie.Need-returns-in-Idle-phase
 unfolding view_reaction reaction_to logs_only
@@ -29,13 +26,12 @@ idle-marker c channel = rw (c.logs-in-Idle-phase.ensures, c.in-Idle-phase.is)
 physical-marker : tie.Need-returns-in-Physical-phase
 unfolding view_reaction reaction_to logs_only
 physical-marker c channel =
-    let told = c.before in
-    rw (c.logs-in-Physical-phase.ensures, told.in-Physical-phase.is, told.in-Marker.is)
+    rw (c.logs-in-Physical-phase.ensures, c.in-Physical-phase.is, c.in-Marker.is)
 
 logical-marker : tie.Need-returns-in-Logical-phase
 unfolding view_reaction reaction_to
 logical-marker c channel =
-    let told = c.before in rw (told.in-Logical-phase.is, told.in-Marker.is)
+    rw (c.in-Logical-phase.is, c.in-Marker.is)
 
 pub react_spec : {M : Type 1} → statement M
 react_spec =

@@ -13,8 +13,7 @@ decreases-loop lengths n so₀ c₀ so c = n - c
 
 loop-again : tie.Need-loop-c-preserved invariant-loop decreases-loop
 loop-again c =
-    let turn = c.before.before in
-    one_more turn.loop-c.invariant turn.loop-c-test.true c.channel_sound-so.ensures
+    one_more c.loop-c.invariant c.loop-c-test.true c.channel_sound-so.ensures
 
 returns : tie.Need-returns invariant-loop decreases-loop
 returns c = all_tested c.loop-c.invariant (λ l. omega (arith, l))

@@ -47,7 +47,7 @@ module _ (p : tie.Else-not-passes) where
   sizes = accepted_sizes s.topology (accepts_none (topology_refusal s.topology) passes)
 
   long : length s.lengths ≡ channel_limit
-  long = let start = p.before.before.before in search length_of
+  long = search length_of
 
 -- the clauses, each by a test of its own
 by_clauses : (g : GlobalState) (a b c d e : Bool) → topology_sound g.topology ≡ true

@@ -14,7 +14,7 @@ decreases-loop c t from to so₀ d₀ so d = c - d
 
 loop-again : tie.Need-loop-d-preserved invariant-loop decreases-loop
 unfolding same_ends sender receiver
-loop-again c = let turn = c.before.before in one_more turn.loop-d.invariant turn.loop-d-test.true refl
+loop-again c = one_more c.loop-d.invariant c.loop-d-test.true refl
 
 returns : tie.Need-returns invariant-loop decreases-loop
 unfolding apart

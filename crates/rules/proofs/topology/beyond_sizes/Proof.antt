@@ -10,18 +10,16 @@ use Rattle.rules.proofs.topology.beyond_sizes.Tie as tie
 passes : tie.Need-returns-then-known
 unfolding refusal_of or_else late_refusal first_refusal
 passes c =
-    let t = c.before.before in
-    rw (← t.channels.ensures, t.in-Pass.is, ← c.known.ensures, c.if-known.true)
+    rw (← c.channels.ensures, c.in-Pass.is, ← c.known.ensures, c.if-known.true)
 
 unknown : tie.Need-returns-else-known
 unfolding refusal_of or_else late_refusal first_refusal
 unknown c =
-    let t = c.before.before in
-    rw (← t.channels.ensures, t.in-Pass.is, ← c.known.ensures, c.if-known.false)
+    rw (← c.channels.ensures, c.in-Pass.is, ← c.known.ensures, c.if-known.false)
 
 by-channels : tie.Need-returns-in-Refuse
 unfolding refusal_of or_else
-by-channels c = let r = c in rw (← r.channels.ensures, r.in-Refuse.is)
+by-channels c = rw (← c.channels.ensures, c.in-Refuse.is)
 
 pub beyond_sizes_spec : {M : Type 1} → statement M
 beyond_sizes_spec =

@@ -18,14 +18,12 @@ self c = rw (c.if-not-from-t.false-raw, eq-eqb _ _ c.if-from-to.true)
 twice : tie.Need-returns-then-not-apart
 unfolding refusal_of channel_refusal first_refusal has_process sender receiver apart
 twice c =
-    let e = c.before.before in
-    rw (e.if-not-from-t.false-raw, ne_eqb _ _ e.if-from-to.false, ← c.apart.ensures, c.if-not-apart.true-raw)
+    rw (c.if-not-from-t.false-raw, ne_eqb _ _ c.if-from-to.false, ← c.apart.ensures, c.if-not-apart.true-raw)
 
 passes : tie.Need-returns
 unfolding refusal_of channel_refusal first_refusal has_process sender receiver apart
 passes c =
-    let e = c.before.before in
-    rw (e.if-not-from-t.false-raw, ne_eqb _ _ e.if-from-to.false, ← c.apart.ensures, c.if-not-apart.false-raw)
+    rw (c.if-not-from-t.false-raw, ne_eqb _ _ c.if-from-to.false, ← c.apart.ensures, c.if-not-apart.false-raw)
 
 pub channel_spec : {M : Type 1} → statement M
 channel_spec =

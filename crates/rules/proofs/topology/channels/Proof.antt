@@ -22,19 +22,16 @@ loop-holds c = (omega arith, refl)
 decides : tie.Need-returns-in-Refuse invariant-loop decreases-loop
 unfolding refusal_of channels_refusal
 decides c =
-    let r = c in
-    let channel = r.before in
-    let l = channel.loop-c in
+    let l = c.loop-c in
     sym (first_at _ l.c _ _ (omega arith) l.invariant.1
-    (sym channel.channel.ensures ∙ ap refusal_of r.in-Refuse.is))
+    (sym c.channel.ensures ∙ ap refusal_of c.in-Refuse.is))
 
 loop-again : tie.Need-loop-c-preserved invariant-loop decreases-loop
 unfolding refusal_of
 loop-again c =
-    let channel = c.before in
-    let l = channel.loop-c in (
+    let l = c.loop-c in (
       omega arith,
-      first_next l.c _ l.invariant.1 ∙ sym channel.channel.ensures ∙ ap refusal_of c.in_default.is,
+      first_next l.c _ l.invariant.1 ∙ sym c.channel.ensures ∙ ap refusal_of c.in_default.is,
     )
 
 passes : tie.Need-returns invariant-loop decreases-loop

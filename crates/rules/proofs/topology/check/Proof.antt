@@ -21,12 +21,11 @@ few c κs = (sizes _ _ (sym c.sizes.ensures ∙ ap refusal_of c.in-Pass.is)).cha
 beyond : tie.Need-returns-in-Pass
 unfolding refusal_of topology_refusal or_else
 beyond c =
-    let told = c.before in
-    c.beyond_sizes.ensures ∙ rw (← told.sizes.ensures, told.in-Pass.is)
+    c.beyond_sizes.ensures ∙ rw (← c.sizes.ensures, c.in-Pass.is)
 
 by-sizes : tie.Need-returns-in-Refuse
 unfolding refusal_of topology_refusal or_else
-by-sizes c = let r = c in rw (← r.sizes.ensures, r.in-Refuse.is)
+by-sizes c = rw (← c.sizes.ensures, c.in-Refuse.is)
 
 pub check_spec : {M : Type 1} → statement M
 check_spec =

@@ -14,7 +14,7 @@ decreases-loop t so₀ c₀ so c = t.channels - c
 
 loop-again : tie.Need-loop-c-preserved invariant-loop decreases-loop
 unfolding joins_two has_process sender receiver
-loop-again c = let turn = c.before.before in one_more turn.loop-c.invariant turn.loop-c-test.true refl
+loop-again c = one_more c.loop-c.invariant c.loop-c-test.true refl
 
 returns : tie.Need-returns invariant-loop decreases-loop
 returns c = all_tested c.loop-c.invariant (λ l. omega (arith, l))

@@ -40,17 +40,15 @@ refused c = rw (← c.sizes.ensures, c.in_default.is)
 
 not-joined : tie.Need-returns-then-not-joined
 not-joined c =
-    let j = c.before in
-    sym (by_passes j.before ∙ rw (sym j.joined.ensures ∙ not-true _ c.if-not-joined.true-raw))
+    sym (by_passes c.before.before ∙ rw (sym c.joined.ensures ∙ not-true _ c.if-not-joined.true-raw))
 
 all_joined : (c : tie.Else-not-joined) → let t = T c.before.before in all_below t.channels (joins_two t) ≡ true
 all_joined c = sym c.joined.ensures ∙ not-false _ c.if-not-joined.false-raw
 
 by-table : tie.Need-returns
 by-table c =
-    let d = c.before in
-    ap₂ ◌&&◌ d.distinct.ensures c.known.ensures
-    ∙ sym (by_passes d.before.before.before ∙ rw (all_joined d.before))
+    ap₂ ◌&&◌ c.distinct.ensures c.known.ensures
+    ∙ sym (by_passes c.before.before.before.before ∙ rw (all_joined c.before.before))
 
 pub passes_spec : {M : Type 1} → statement M
 passes_spec =

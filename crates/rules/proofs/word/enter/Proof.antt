@@ -7,17 +7,14 @@ use Rattle.rules.proofs.word.enter.Tie as tie
 
 returns : tie.Need-returns
 returns c =
-    let second = c.before in
-    let sum = second.before in
-    let first = sum.before in
-    let a = first.args in
+    let a = c.args in
     let w = 31 * a.word in
     let r = a.receipt in
     rw (
       c.wrapping_add_u32.ensures,
-      second.product-2.ensures,
-      sum.wrapping_add_u32-from.ensures,
-      first.product.ensures,
+      c.product-2.ensures,
+      c.wrapping_add_u32-from.ensures,
+      c.product.ensures,
     )
     (ap (λ (n : ℕ). (31 * n % modulus + r.body) % modulus) (mod-add-mod w modulus r.channel)
     ∙ mod-add-mod (31 * ((w + r.channel) % modulus)) modulus r.body

@@ -8,16 +8,13 @@ use Rattle.rules.proofs.word.leave.Tie as tie
 returns : tie.Need-returns
 unfolding leave
 returns c =
-    let second = c.before in
-    let over = second.before in
-    let first = over.before in
-    let low₁ : first.wrapping_sub_u32.result < modulus = omega arith in
-    let low₂ : second.wrapping_sub_u32-2.result < modulus = omega arith in
+    let low₁ : c.wrapping_sub_u32.result < modulus = omega arith in
+    let low₂ : c.wrapping_sub_u32-2.result < modulus = omega arith in
     rw (
       c.over.ensures,
-      difference _ _ _ low₂ second.wrapping_sub_u32-2.ensures,
-      over.over-from.ensures,
-      difference _ _ _ low₁ first.wrapping_sub_u32.ensures,
+      difference _ _ _ low₂ c.wrapping_sub_u32-2.ensures,
+      c.over-from.ensures,
+      difference _ _ _ low₁ c.wrapping_sub_u32.ensures,
     )
 
 pub leave_spec : {M : Type 1} → statement M

@@ -8,44 +8,40 @@ use Rattle.session.proofs.play.play.Statement.{statement}
 use Rattle.session.proofs.play.play.Tie as tie
 
 -- the input's first bytes, once they are read
-abbrev bytes : tie.After-read → tie.After-taken
+abbrev bytes : tie.After-read-reading → tie.After-taken-bytes
 bytes k = k.before
 
-refused : tie.Need-returns
+refused : tie.Need-returns-in-Refuse
 unfolding refusal_of
 refused c =
-    let line = c.before.before in
-    let told = line.before.before.before in
-    let k = told.before.before in
-    let refusal = sym (plan_refusal_lem k.read.result _ k.read.ensures) ∙ ap refusal_of told.verdict.given.1 in
-    plays_refused _ _ _ (bytes k).taken.ensures refusal refl line.plan-refused.ensures
+    let k = c.before.before.before.before.before in
+    let refusal = sym (plan_refusal_lem k.read-reading.result _ k.read-reading.ensures) ∙ ap refusal_of c.in-Refuse.is in
+    plays_refused _ _ _ (bytes k).taken-bytes.ensures refusal refl c.plan_refused.ensures
 
 -- the plan passes, and its records follow
-abbrev reading : tie.After-rest → tie.After-read
-reading r = r.before.before.before.before
+abbrev reading : tie.After-rest-records → tie.After-read-reading
+reading r = r.before.before.before
 
-passes : (r : tie.After-rest) → Passes (bytes (reading r)).taken.result.now (reading r).read.result.topology
+passes : (r : tie.After-rest-records) → Passes (bytes (reading r)).taken-bytes.result.now (reading r).read-reading.result.topology
 unfolding refusal_of
 passes r =
     let k = reading r in
-    plan_read k.read.result _ k.read.ensures (ap refusal_of r.before.before.enum_told.given.1)
+    plan_read k.read-reading.result _ k.read-reading.ensures (ap refusal_of r.in_default.is)
 
 may-run : tie.Need-run-requires
 may-run c κs =
     let r = c.before.before in
     let taken = bytes (reading r) in
-    let start = taken.before.before.before.before in
     record {
       accepted = (passes r).accepted;
-      taken = few_records start.args.input.now taken.taken.ensures r.rest.ensures;
-      cells = start.pre;
+      taken = few_records taken.args.input.now taken.taken-bytes.ensures r.rest-records.ensures;
+      cells = taken.requires;
     }
 
-ran : tie.Need-returns-2
+ran : tie.Need-returns
 ran c =
-    let run = c.before.before.before.before in
-    let r = run.before.before.before in
-    plays_read _ _ _ (bytes (reading r)).taken.ensures (passes r) r.rest.ensures run.run.ensures
+    let r = c.before.before.before.before.before.before.before in
+    plays_read _ _ _ (bytes (reading r)).taken-bytes.ensures (passes r) r.rest-records.ensures c.run.ensures
 
 pub play_spec : {M : Type 1} → statement M
 play_spec =

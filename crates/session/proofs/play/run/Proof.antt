@@ -5,10 +5,10 @@ use Rattle.session.proofs.play.run.Statement.{statement}
 use Rattle.session.proofs.play.run.Tie as tie
 
 -- the places: the requests are served, and before that initialize has answered
-abbrev served : tie.After-print → tie.After-requests
+abbrev served : tie.After-print → tie.After-requests-cursor
 served p = p.before.before.before.before.before.before.before
 
-abbrev initialized : tie.After-requests → tie.After-initialize
+abbrev initialized : tie.After-requests-cursor → tie.After-initialize-started
 initialized q = q.before.before.before.before.before.before
 
 returns : tie.Need-returns
@@ -16,9 +16,8 @@ returns c =
     let last = c.before.before in
     let q = served last in
     let i = initialized q in
-    let start = i.before.before.before.before.before in
-    plays_through _ _ _ _ i.initialize.ensures.state i.initialize.ensures.store start.pre.taken
-    q.requests.ensures start.pre.accepted last.print.ensures
+    plays_through _ _ _ _ i.initialize-started.ensures.state i.initialize-started.ensures.store i.requires.taken
+    q.requests-cursor.ensures i.requires.accepted last.print.ensures
 
 pub run_spec : {M : Type 1} → statement M
 run_spec =

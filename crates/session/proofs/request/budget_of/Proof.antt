@@ -6,19 +6,18 @@ use Rattle.session.specs.RequestRead.{budgeted}
 use Rattle.session.proofs.request.budget_of.Statement.{statement}
 use Rattle.session.proofs.request.budget_of.Tie as tie
 
-full : tie.Need-returns
+full : tie.Need-returns-in-Full
 unfolding read_budget budgeted
-full c = rw c.enum_told.given.1
+full c = rw c.in-Full.is
 
-short : tie.Need-returns-2
+short : tie.Need-returns-then-bytes-lt-BUDGET_BYTES
 unfolding read_budget budgeted
-short c = rw (c.before.enum-told2.given.1, no_body _ 0 c.if1.true)
+short c = rw (c.in_default.is, no_body _ 0 c.if-bytes-lt-BUDGET_BYTES.true)
 
-given : tie.Need-returns-3
+given : tie.Need-returns
 unfolding read_budget budgeted
 given c =
-    let long = c.before.before.before.before.before in
-    rw (long.before.enum-told2.given.1, a_body _ 0 long.if1.false, c.word.ensures)
+    rw (c.in_default.is, a_body _ 0 c.if-bytes-lt-BUDGET_BYTES.false, c.word.ensures)
 
 pub budget_of_spec : {M : Type 1} → statement M
 budget_of_spec =

@@ -11,43 +11,38 @@ use Rattle.session.proofs.Requests.{no_budget, a_budget}
 use Rattle.session.proofs.request.read.Statement.{statement}
 use Rattle.session.proofs.request.read.Tie as tie
 
-none-lasts : tie.Need-returns
+none-lasts : tie.Need-returns-in_default
 unfolding read_request and_then requested
 none-lasts c =
-    let k = c.before.before in
-    rw (no_budget _ (sym k.budget-of.ensures ∙ c.enum_told.given.1))
+    rw (no_budget _ (sym c.budget_of.ensures ∙ c.in_default.is))
 
 -- the budget, and what is read after it
 module _ (c : tie.After-read) where
-  abbrev budget : tie.After-budget
-  budget = c.before.before.before
-
   abbrev start : tie.Start
-  start = budget.before.before.before.before
+  start = c.before.before.before.before.before
 
   lasts : read_budget (source_of start.args.source) start.args.bytes.now
-      ≡ some (budget.budget.given.0.0, after_budget (source_of start.args.source) start.args.bytes.now)
-  lasts = a_budget _ _ (sym budget.before.before.budget-of.ensures ∙ budget.budget.given.1)
+      ≡ some (c.in-Lasts.budget, after_budget (source_of start.args.source) start.args.bytes.now)
+  lasts = a_budget _ _ (sym c.budget_of.ensures ∙ c.in-Lasts.is)
 
   answers : record_said c.read.result
       ≡ record_in (read_record (after_budget (source_of start.args.source) start.args.bytes.now))
-  answers = rw (← c.before.record-bytes.ensures) c.read.ensures
+  answers = rw (← c.record_bytes-content.ensures) c.read.ensures
 
-none_read : tie.Need-returns-2
+none_read : tie.Need-returns-in_default-read
 unfolding read_request and_then requested
 none_read c =
-    let k = c.before.before in
-    rw (lasts k, and_then, no_record _ (sym (answers k) ∙ ap record_said c.enum-told2.given.1))
+    let k = c.before in
+    rw (lasts k, and_then, no_record _ (sym (answers k) ∙ ap record_said c.in_default-read.is))
 
-both : tie.Need-returns-3
+both : tie.Need-returns
 unfolding read_request and_then requested
 both c =
-    let r = c.before in
-    let k = r.before.before in
+    let k = c.before in
     rw (
       lasts k,
       and_then,
-      a_record (start k).args.bytes.now _ (sym (answers k) ∙ ap record_said r.«record».given.1),
+      a_record (start k).args.bytes.now _ (sym (answers k) ∙ ap record_said c.in-Read.is),
     )
 
 pub read_spec : {M : Type 1} → statement M

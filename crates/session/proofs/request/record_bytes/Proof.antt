@@ -10,20 +10,19 @@ use Rattle.record.specs.RecordRead.{remaining}
 use Rattle.session.proofs.request.record_bytes.Statement.{statement}
 use Rattle.session.proofs.request.record_bytes.Tie as tie
 
-full : tie.Need-returns
+full : tie.Need-returns-in-Full
 unfolding read_budget remaining
-full c = rw c.enum_told.given.1
+full c = rw c.in-Full.is
 
-short : tie.Need-returns-2
+short : tie.Need-returns-then-bytes-lt-BUDGET_BYTES
 unfolding read_budget remaining
-short c = rw (c.before.enum-told2.given.1, no_body _ 0 c.if1.true)
+short c = rw (c.in_default.is, no_body _ 0 c.if-bytes-lt-BUDGET_BYTES.true)
 
-given : tie.Need-returns-3
+given : tie.Need-returns
 unfolding read_budget remaining
 given c =
-    let long = c.before in
-    let bytes = long.before.before.before.args.bytes.now in
-    rw (long.before.enum-told2.given.1, a_body bytes 0 long.if1.false)
+    let bytes = c.args.bytes.now in
+    rw (c.in_default.is, a_body bytes 0 c.if-bytes-lt-BUDGET_BYTES.false)
     (take_all (length bytes - 4) (drop 4 bytes) (rw length-drop (omega arith)))
 
 pub record_bytes_spec : {M : Type 1} → statement M

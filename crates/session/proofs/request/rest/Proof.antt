@@ -7,4 +7,4 @@ pub rest_spec : {M : Type 1} → statement M
 rest_spec =
     tie.close
     (tie.spec (λ c κs. search rules) (λ c κs. search rules)
-    (λ c. rw (← c.before.record-bytes.ensures) c.rest.ensures))
+    (λ c. rw (← c.record_bytes-content.ensures) c.rest.ensures))

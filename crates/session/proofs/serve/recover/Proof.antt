@@ -6,21 +6,15 @@ use Rattle.session.proofs.Serving.{recover_served, recover_refused}
 use Rattle.session.proofs.serve.recover.Statement.{statement}
 use Rattle.session.proofs.serve.recover.Tie as tie
 
-ready : tie.Need-returns
+ready : tie.Need-returns-in-Ready
 ready c =
-    let line = c.before.before in
-    let told = line.before.before.before.before in
-    let recovered = told.before.before in
-    recover_served _ _ _ _ recovered.recover.ensures (ap start_refusal told.enum_told.given.1)
-    line.recover-line.ensures
+    recover_served _ _ _ _ c.recover-started.ensures (ap start_refusal c.in-Ready.is)
+    c.recover_line-at.ensures
 
-refused : tie.Need-returns-2
+refused : tie.Need-returns-in-Refused
 refused c =
-    let line = c.before.before.before in
-    let told = line.before.before.before in
-    let recovered = told.before.before in
-    recover_refused _ _ _ _ recovered.recover.ensures (ap start_refusal told.start.given.1)
-    line.outcome-line.ensures
+    recover_refused _ _ _ _ c.recover-started.ensures (ap start_refusal c.in-Refused.is)
+    c.outcome_line-at.ensures
 
 pub recover_spec : {M : Type 1} → statement M
 recover_spec =

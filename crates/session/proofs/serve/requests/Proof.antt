@@ -33,81 +33,73 @@ record AtCursor (n₀ : ℕ) (all here : Session) (store₀ store out₀ out lef
   out_length : length out ≡ length out₀
   leads : Leads (length left) here out cursor.at n₀ all out₀ 0
 
-abbrev invariant-loop : tie.invariant-loop
+abbrev invariant-loop : tie.invariant-loop-left
 invariant-loop source topology bytes store₀ out₀ cursor₀ left₀ store out cursor left =
     AtCursor (length bytes) (from source topology cursor₀ store₀ bytes) (from source topology cursor store left)
     store₀ store out₀ out left cursor
 
-abbrev decreases-loop : tie.decreases-loop
+abbrev decreases-loop : tie.decreases-loop-left
 decreases-loop source topology bytes store₀ out₀ cursor₀ left₀ store out cursor left = length left
 
-loop-holds : tie.Need-loop-init invariant-loop decreases-loop
+loop-holds : tie.Need-loop-left-init invariant-loop decreases-loop
 loop-holds c =
-    let k = c.before.before in
     record {
-      lines = omega (arith, k.before.requires);
-      bytes = λ i. omega (arith, k.shared-slice-known.given i);
+      lines = omega (arith, c.requires);
+      bytes = λ i. omega (arith, c.shared_slice_known-1.given i);
       store_length = refl;
       out_length = refl;
       leads = λ after r s left p. p;
     }
 
 -- a request was read, and left after it
-module _ (c : tie.After-rest invariant-loop decreases-loop) where
-  abbrev at-loop : tie.At-loop invariant-loop decreases-loop
-  at-loop = c.before.before.before.before.before.before
+module _ (c : tie.After-rest-after invariant-loop decreases-loop) where
+  abbrev at-loop : tie.At-loop-left invariant-loop decreases-loop
+  at-loop = c.before.before.before.before
 
   abbrev request : Request
-  request = let r = c.before.before.«record».given in record { content = r.0.0; budget = r.0.1.0 }
+  request = record { content = c.in-Read.«record»; budget = c.in-Read.budget }
 
-  read : read_request (source_of at-loop.before.before.before.before.args.source) at-loop.loop.left.now
-      ≡ some (request, c.rest.result.now)
-  read =
-      let r = c.before.before in
-      read_whole _ _ (sym r.before.before.read.ensures ∙ r.«record».given.1) c.rest.ensures
+  read : read_request (source_of at-loop.args.source) at-loop.loop-left.left.now
+      ≡ some (request, c.rest-after.result.now)
+  read = read_whole _ _ (sym c.read.ensures ∙ c.in-Read.is) c.rest-after.ensures
 
-  after : After at-loop.loop.left.now c.rest.result.now
-  after = request_after _ _ at-loop.loop.inv.bytes request c.rest.result.now read
+  after : After at-loop.loop-left.left.now c.rest-after.result.now
+  after = request_after _ _ at-loop.loop-left.invariant.bytes request c.rest-after.result.now read
 
-loop-again : tie.Need-loop-preserved invariant-loop decreases-loop
+loop-again : tie.Need-loop-left-preserved invariant-loop decreases-loop
 loop-again c =
-    let s = c.before.before.before.before in
-    let r = s.before.before.before in
-    let inv = (at-loop r).loop.invariant in
-    let (Kept-store, (kept_out, _)) = s.serve.auto.1.1.1.1 in
+    let r = c.before.before.before.before.before.before.before in
+    let inv = (at-loop r).loop-left.invariant in
     record {
-      lines = omega (arith, inv.lines, fewer (after r), s.serve.ensures.number);
+      lines = omega (arith, inv.lines, fewer (after r), c.serve-next.ensures.number);
       bytes = bytes_after (after r) inv.bytes;
-      store_length = Kept-store ∙ inv.store_length;
-      out_length = kept_out ∙ inv.out_length;
+      store_length = c.serve-next.auto.store ∙ inv.store_length;
+      out_length = c.serve-next.auto.out ∙ inv.out_length;
       leads =
-          leads_on _ _ _ _ _ inv.leads (request r) r.rest.result.now inv.bytes (read r)
-          s.serve.ensures;
+          leads_on _ _ _ _ _ inv.leads (request r) r.rest-after.result.now inv.bytes (read r)
+          c.serve-next.ensures;
     }
 
 -- where the bytes were no request, and the line of a 7 was printed
-abbrev unread : tie.After-outcome-line invariant-loop decreases-loop → tie.After-read invariant-loop decreases-loop
-unread line = line.before.before.before.before
+abbrev unread : tie.After-outcome_line-at invariant-loop decreases-loop → tie.After-read invariant-loop decreases-loop
+unread line = line.before.before.before
 
-broken : tie.Need-returns-2 invariant-loop decreases-loop
+broken : tie.Need-returns-in_default invariant-loop decreases-loop
 broken c =
-    let line = c.before.before in
-    let at = (unread line).before in
-    leads_to_break _ _ _ _ _ at.before.loop.inv.leads at.loop-test.taken
-    (no_request _ (sym (unread line).read.ensures ∙ line.before.before.enum_told.given.1))
-    line.outcome-line.ensures
+    leads_to_break _ _ _ _ _ c.loop-left.invariant.leads c.loop-left-test.true
+    (no_request _ (sym c.read.ensures ∙ c.in_default.is)) c.outcome_line-at.ensures
 
-ended : tie.Need-returns invariant-loop decreases-loop
-ended c = leads_to_end _ _ _ _ _ c.before.loop.invariant.leads c.loop-test.false
+ended : tie.Need-returns-after-loop-left invariant-loop decreases-loop
+ended c = leads_to_end _ _ _ _ _ c.loop-left.invariant.leads c.loop-left-test.false
 
 pub requests_spec : {M : Type 1} → statement M
 requests_spec =
     tie.close
     (tie.spec invariant-loop decreases-loop loop-holds (λ c κs. search rules) (λ c. search rules) (λ c. search rules)
     (λ c κs. search rules) (λ c κs. search rules)
-    (λ c κs. omega (arith, (at-loop c.before.before).loop.inv.lines))
+    (λ c κs. omega (arith, (at-loop c.before.before).loop-left.invariant.lines))
     (λ c. omega (arith, fewer (after c.before.before.before.before.before.before.before))) loop-again
-    (λ c. c.before.loop.invariant.store_length) (λ c. c.before.loop.invariant.out_length) ended
-    (λ c. (unread c.before.before).before.before.loop.inv.store_length)
-    (λ c. c.before.before.outcome-line.auto.0 ∙ (unread c.before.before).before.before.loop.inv.out_length)
+    (λ c. c.loop-left.invariant.store_length) (λ c. c.loop-left.invariant.out_length) ended
+    (λ c. (unread c.before.before).loop-left.invariant.store_length)
+    (λ c. c.outcome_line-at.auto.out ∙ (unread c.before.before).loop-left.invariant.out_length)
     broken)

@@ -6,19 +6,14 @@ use Rattle.session.proofs.serve.serve.Statement.{statement}
 use Rattle.session.proofs.serve.serve.Tie as tie
 
 -- a recover ignores the budget
-recovers : tie.Need-returns
+recovers : tie.Need-returns-in_default
 unfolding serve
 recovers c =
-    let recovered = c.before.before in
-    let told = recovered.before.before.before in
-    rw told.enum_told.given.1 recovered.recover.ensures
+    rw c.in_default.is c.recover.ensures
 
-steps : tie.Need-returns-2
+steps : tie.Need-returns
 steps c =
-    let line = c.before.before.before in
-    let answered = line.before.before.before.before in
-    let told = answered.before.before.before in
-    rw told.«record».given.1 (step_served _ _ _ _ _ answered.step.ensures line.outcome-line.ensures)
+    rw c.in-Call.is (step_served _ _ _ _ _ c.step-answer.ensures c.outcome_line-at.ensures)
 
 pub serve_spec : {M : Type 1} → statement M
 serve_spec =

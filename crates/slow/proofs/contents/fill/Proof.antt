@@ -13,20 +13,20 @@ use Rattle.slow.proofs.Filling.{filled_more, counted_more, room_left_lem}
 use Rattle.slow.proofs.contents.fill.Statement.{statement}
 use Rattle.slow.proofs.contents.fill.Tie as tie
 
-abbrev invariant-loop : tie.invariant-loop
+abbrev invariant-loop : tie.invariant-loop-k
 invariant-loop p channel turned from to past histories count mark c₀ seen₀ k₀ c seen k =
     (k ≤ count)
     × (seen ≤ k)
     × (seen ≡ length (sent_by turned past histories p channel k))
     × (entries c ≡ entries c₀ ++ between from to (sent_by turned past histories p channel k))
 
-abbrev decreases-loop : tie.decreases-loop
+abbrev decreases-loop : tie.decreases-loop-k
 decreases-loop p channel turned from to past histories count mark c₀ seen₀ k₀ c seen k = count - k
 
-loop-holds : tie.Need-loop-init invariant-loop decreases-loop
+loop-holds : tie.Need-loop-k-init invariant-loop decreases-loop
 unfolding sent_by
 loop-holds c =
-    let a = c.before.before.args in (
+    let a = c.args in (
       omega arith,
       omega arith,
       refl,
@@ -34,61 +34,54 @@ loop-holds c =
     )
 
 -- an event is one of 256
-room : (c : tie.In-loop invariant-loop decreases-loop) → c.before.loop.k < 256
+room : (c : tie.In-loop-k invariant-loop decreases-loop) → c.loop-k.k < 256
 room c =
-    let s = c.before.before.before.before in
-    omega (arith, c.loop-test.true, s.requires.whole.room s.args.p)
+    omega (arith, c.loop-k-test.true, c.requires.whole.room c.args.p)
 
-push-requires : tie.Need-push-requires invariant-loop decreases-loop
+push-requires : tie.Need-push-c-requires invariant-loop decreases-loop
 push-requires c κs =
-    let turn = c.before.before.before.before.before.before.before in
-    let l = turn.before.loop in
-    let s = turn.before.before.before.before in
-    let a = s.args in
-    let on = c.before.before.before.on-channel.ensures in
-    let at = c.before.before.before.before.before.wide.ensures.0 in
-    rw (c.before.both.ensures, on, at, c.before.before.within.ensures, l.invariant.2)
-    (room_left_lem a.turned a.t2 a.t3 a.p a.channel a.from a.to l.k (entries a.first)
-    (entries l.c) l.invariant.3 (get_or a.t3.counts a.p 0) turn.loop-test.true s.requires.fits)
+    let l = c.loop-k in
+    let a = c.args in
+    let on = c.on_channel-on.ensures in
+    let at = c.wide-i.ensures.0 in
+    rw (c.both-yes.ensures, on, at, c.within.ensures, l.invariant.2)
+    (room_left_lem a.turned a.past a.histories a.p a.channel a.from a.to l.k (entries a.first)
+    (entries l.c) l.invariant.3 (get_or a.histories.counts a.p 0) c.loop-k-test.true c.requires.fits)
 
-and-one-requires : tie.Need-and-one-requires invariant-loop decreases-loop
+and-one-requires : tie.Need-and_one-seen-requires invariant-loop decreases-loop
 and-one-requires c κs =
     let turn = c.before.before.before.before.before.before.before.before in
-    omega (arith, room turn, turn.before.loop.invariant.1)
+    omega (arith, room turn, turn.loop-k.invariant.1)
 
-loop-again : tie.Need-loop-preserved invariant-loop decreases-loop
+loop-again : tie.Need-loop-k-preserved invariant-loop decreases-loop
 loop-again c =
-    let pushed = c.before in
-    let tested = pushed.before.before in
-    let turn = tested.before.before.before.before.before.before in
-    let l = turn.before.loop in
-    let a = turn.before.before.before.before.args in
-    let on = tested.before.before.on-channel.ensures in
-    let at = tested.before.before.before.before.wide.ensures.0 in (
-      omega (arith, turn.loop-test.true),
-      at_most tested.before.before.on-channel.result c.and_one.ensures l.invariant.1,
-      c.and_one.ensures
+    let l = c.loop-k in
+    let a = c.args in
+    let on = c.on_channel-on.ensures in
+    let at = c.wide-i.ensures.0 in (
+      omega (arith, c.loop-k-test.true),
+      at_most c.on_channel-on.result c.and_one-seen.ensures l.invariant.1,
+      c.and_one-seen.ensures
           ∙ rw (on, at, l.invariant.2)
-          (counted_more a.turned a.t2 a.t3 a.p a.channel a.from a.to l.k),
-      pushed.push.ensures
-          ∙ rw (pushed.before.kind.ensures, tested.both.ensures, on, at, tested.before.within.ensures)
+          (counted_more a.turned a.past a.histories a.p a.channel a.from a.to l.k),
+      c.push-c.ensures
+          ∙ rw (c.kind.ensures, c.both-yes.ensures, on, at, c.within.ensures)
           (rw l.invariant.2
-          (filled_more a.turned a.t2 a.t3 a.p a.channel a.from a.to l.k (entries a.first)
+          (filled_more a.turned a.past a.histories a.p a.channel a.from a.to l.k (entries a.first)
           (entries l.c) l.invariant.3)),
     )
 
 returns : tie.Need-returns invariant-loop decreases-loop
 returns c =
-    let a = c.before.before.before.before.args in
-    let e : c.before.loop.k ≡ get_or a.t3.counts a.p 0 = omega arith in rw e at c.before.loop.invariant.3
+    let a = c.args in
+    let e : c.loop-k.k ≡ get_or a.histories.counts a.p 0 = omega arith in rw e at c.loop-k.invariant.3
 
 pub fill_spec : {M : Type 1} → statement M
 fill_spec =
     tie.close
-    (tie.spec invariant-loop decreases-loop (λ c. search rules) (λ c. search rules) (λ c. search rules) (λ c. search rules)
-    loop-holds (λ c. search rules) (λ c. omega (arith, room c)) (λ c. omega (arith, room c))
-    (λ c. omega (arith, room c)) (λ c κs. search rules) (λ c. search rules) (λ c. search rules)
-    (λ c κs. search rules) (λ c κs. search rules) (λ c κs. search rules) (λ c κs. search rules) push-requires
-    and-one-requires
-    (λ c. omega (arith, room c.before.before.before.before.before.before.before.before.before))
-    (λ c. omega arith) loop-again returns)
+    (tie.spec invariant-loop decreases-loop (λ c. search rules) (λ c. search rules) (λ c. search rules)
+    (λ c. search rules) loop-holds (λ c. search rules) (λ c. omega (arith, room c)) (λ c. omega (arith, room c))
+    (λ c. omega (arith, room c)) (λ c κs. search rules) (λ c. search rules) (λ c. search rules) (λ c κs. search rules)
+    (λ c κs. search rules) (λ c κs. search rules) (λ c κs. search rules) push-requires and-one-requires
+    (λ c. omega (arith, room c.before.before.before.before.before.before.before.before.before)) (λ c. omega arith)
+    loop-again returns)

@@ -12,20 +12,20 @@ use Rattle.slow.proofs.contents.push.Statement.{statement}
 use Rattle.slow.proofs.contents.push.Tie as tie
 
 -- there is room for one more
-room : (c : tie.Then1) → c.before.args.t1.count < 8
+room : (c : tie.Then-yes) → c.args.c.count < 8
 room c =
-    let one : length (entries c.before.args.t1) + 1 ≤ 8 = rw c.if1.true at c.before.requires in
-    omega (arith, entries_count c.before.args.t1)
+    let one : length (entries c.args.c) + 1 ≤ 8 = rw c.if-yes.true at c.requires in
+    omega (arith, entries_count c.args.c)
 
-pushed : tie.Need-returns
+pushed : tie.Need-returns-then-yes
 pushed c =
-    let s = c.before.args.t1 in
-    let sizes = places s _ c.before.well-formed.0 in
-    rw c.if1.true (extended s c.before.args.kind c.before.args.body
+    let s = c.args.c in
+    let sizes = places s _ c.well_formed.0 in
+    rw c.if-yes.true (extended s c.args.kind c.args.body
     (omega (arith, room c, sizes.kinds)) (omega (arith, room c, sizes.bodies)))
 
-left : tie.Need-returns-2
-left c = rw c.if1.false (sym (append-nil (entries c.before.args.t1)))
+left : tie.Need-returns-else-yes
+left c = rw c.if-yes.false (sym (append-nil (entries c.args.c)))
 
 pub push_spec : {M : Type 1} → statement M
 push_spec =

@@ -13,36 +13,36 @@ use Rattle.slow.proofs.OnChannel.{word_more}
 use Rattle.slow.proofs.contents.word.Statement.{statement}
 use Rattle.slow.proofs.contents.word.Tie as tie
 
-abbrev invariant-loop : tie.invariant-loop
+abbrev invariant-loop : tie.invariant-loop-k
 invariant-loop p past histories count word₀ k₀ word k =
     (k ≤ count) × (word ≡ replay 0 (receipts_of (tabulate k (λ i. event_of (deed_at past (place_in histories p i))))))
 
-abbrev decreases-loop : tie.decreases-loop
+abbrev decreases-loop : tie.decreases-loop-k
 decreases-loop p past histories count word₀ k₀ word k = count - k
 
-loop-holds : tie.Need-loop-init invariant-loop decreases-loop
+loop-holds : tie.Need-loop-k-init invariant-loop decreases-loop
 unfolding tabulate receipts_of replay_by
 loop-holds c = (omega arith, refl)
 
 -- an event is one of 256
-room : (c : tie.In-loop invariant-loop decreases-loop) → c.before.loop.k < 256
-room c = let s = c.before.before.before in omega (arith, c.loop-test.true, s.requires.1.room s.args.p)
+room : (c : tie.In-loop-k invariant-loop decreases-loop) → c.loop-k.k < 256
+room c = omega (arith, c.loop-k-test.true, c.requires.1.room c.args.p)
 
-loop-again : tie.Need-loop-preserved invariant-loop decreases-loop
+loop-again : tie.Need-loop-k-preserved invariant-loop decreases-loop
 loop-again c =
-    let l = c.before.before.before.before.before.before.loop in
-    let a = c.before.before.before.before.before.before.before.before.args in (
+    let l = c.loop-k in
+    let a = c.args in (
       omega arith,
-      c.entered.ensures
-          ∙ rw (c.before.did.ensures, c.before.before.before.wide.ensures.0, l.invariant.1)
-          (word_more (λ i. deed_at a.t1 (place_in a.t2 a.p i)) l.k),
+      c.entered-word.ensures
+          ∙ rw (c.did.ensures, c.wide-i.ensures.0, l.invariant.1)
+          (word_more (λ i. deed_at a.past (place_in a.histories a.p i)) l.k),
     )
 
 returns : tie.Need-returns invariant-loop decreases-loop
 unfolding history_seen
 returns c =
-    let a = c.before.before.before.args in
-    let e : c.before.loop.k ≡ get_or a.t2.counts a.p 0 = omega arith in rw e at c.before.loop.invariant.1
+    let a = c.args in
+    let e : c.loop-k.k ≡ get_or a.histories.counts a.p 0 = omega arith in rw e at c.loop-k.invariant.1
 
 pub word_spec : {M : Type 1} → statement M
 word_spec =

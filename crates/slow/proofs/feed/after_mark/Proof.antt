@@ -18,61 +18,57 @@ use Rattle.slow.proofs.feed.after_mark.Statement.{statement}
 use Rattle.slow.proofs.feed.after_mark.Tie as tie
 
 -- where the ends of the channel are known
-module _ (d : tie.After-channel-number2) where
+module _ (d : tie.After-channel_number-q) where
   abbrev start : tie.Start
   start = d.before.before.before.before
 
   abbrev b : Histories
-  b = start.args.t3
+  b = start.args.histories
 
   abbrev p : ℕ
-  p = d.before.channel-number.result
+  p = d.channel_number-p.result
 
   at_p : p ≡ sender start.args.topology start.args.channel
   unfolding sender
-  at_p = d.before.channel-number.ensures
+  at_p = d.channel_number-p.ensures
 
-  at_q : d.channel-number2.result ≡ receiver start.args.topology start.args.channel
+  at_q : d.channel_number-q.result ≡ receiver start.args.topology start.args.channel
   unfolding receiver
-  at_q = d.channel-number2.ensures
+  at_q = d.channel_number-q.ensures
 
   p_fits : p < 16
-  p_fits = rw at_p start.pre.0
+  p_fits = rw at_p start.requires.0
 
-  q_fits : d.channel-number2.result < 16
-  q_fits = rw at_q start.pre.1
+  q_fits : d.channel_number-q.result < 16
+  q_fits = rw at_q start.requires.1
 
   inside : get_or b.marks p 0 ≡ get_or b.marks p 65535
-  inside = get_d_within b.marks p 0 65535 (omega (arith, p_fits, (arrays b _ start.good.1.1.0).marks))
+  inside = get_d_within b.marks p 0 65535 (omega (arith, p_fits, (arrays b _ start.well_formed.1.1.0).marks))
 
-unmarked : tie.Need-returns
+unmarked : tie.Need-returns-then-not-marked
 unmarked c =
-    let told = c.before in
-    let d = told.before in
+    let d = c.before.before in
     let a = (start d).args in
     not_after a.topology (deed_at a.past) (b d) a.channel (start d).requires.2
-    (rw (at_p d) at (sym told.marked.ensures ∙ not-true _ c.if1.true))
+    (rw (at_p d) at (sym c.marked.ensures ∙ not-true _ c.if-not-marked.true-raw))
 
-number-on-requires : tie.Need-number-on-requires
+number-on-requires : tie.Need-number_on-before-requires
 number-on-requires c κs =
-    let told = c.before.before in
-    let d = told.before in
-    let has = sym told.marked.ensures ∙ not-false _ c.before.if1.false in
+    let d = c.before.before.before in
+    let has = sym c.marked.ensures ∙ not-false _ c.if-not-marked.false-raw in
     (p_fits d, omega (arith, leb-true (get_or (b d).marks (p d) 65535) 256 has, inside d))
 
-marked : tie.Need-returns-2
+marked : tie.Need-returns
 marked c =
-    let before = c.before.before in
-    let left = before.before.before in
-    let d = left.before.before in
+    let d = c.before.before.before.before.before.before in
     let a = (start d).args in
     let on : ℕ → Bool → ℕ → ℕ = λ x sends n. length (on_events (deed_at a.past) (b d) x sends a.channel n) in
     ap₂ leb
-    (before.number-on.ensures.0 ∙ ap (on (p d) true) (inside d)
+    (c.number_on-before.ensures.0 ∙ ap (on (p d) true) (inside d)
     ∙ ap (λ (x : ℕ). on x true (get_or (b d).marks x 65535)) (at_p d))
-    (c.number-on2.ensures.0 ∙ ap (λ (x : ℕ). on x false (get_or (b d).counts x 0)) (at_q d))
+    (c.number_on-received.ensures.0 ∙ ap (λ (x : ℕ). on x false (get_or (b d).counts x 0)) (at_q d))
     ∙ tells_after a.topology (deed_at a.past) (b d) a.channel (start d).requires.2
-    (rw (at_p d) at (sym left.before.marked.ensures ∙ not-false _ left.if1.false))
+    (rw (at_p d) at (sym c.marked.ensures ∙ not-false _ c.if-not-marked.false-raw))
 
 pub after_mark_spec : {M : Type 1} → statement M
 after_mark_spec =

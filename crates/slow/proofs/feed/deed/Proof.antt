@@ -12,52 +12,49 @@ use Rattle.slow.proofs.feed.deed.Tie as tie
 sends-fit : tie.Need-add-requires
 unfolding sender
 sends-fit c κs =
-    let s = c.before.before.before.before in
-    let kind = c.before.match.keys1 in
-    let channel = s.requires.fits.sends (rw kind) in
-    (rw c.channel-number.ensures (ends_fit _ s.requires.good _ channel).0, s.requires.room _, s.requires.whole)
+    let kind = c.in-1.is in
+    let channel = c.requires.fits.sends (rw kind) in
+    (rw c.channel_number.ensures (ends_fit _ c.requires.good _ channel).0, c.requires.room _, c.requires.whole)
 
-sends : tie.Need-returns
+sends : tie.Need-returns-in-1
 unfolding on_deed sender
-sends c = follows c.add.ensures (rw (c.before.channel-number.ensures, c.before.before.match.keys1))
+sends c = follows c.add.ensures (rw (c.channel_number.ensures, c.in-1.is))
 
 receive_fits : tie.Need-receive-requires
 receive_fits c κs =
-    (rw c.match.keys2, c.before.before.before.requires)
+    (rw c.in-2.is, c.requires)
 
-receives : tie.Need-returns-2
+receives : tie.Need-returns-in-2
 unfolding on_deed on_receipt
 receives c =
     let fed = c.receive.ensures in
-    record { seen = rw c.before.match.keys2 fed.seen; whole = fed.whole; grown = fed.grown }
+    record { seen = rw c.in-2.is fed.seen; whole = fed.whole; grown = fed.grown }
 
 mark-fits : tie.Need-mark-requires
 mark-fits c κs =
-    let s = c.before.before.before in
-    let planned = s.requires.fits.marks (rw c.match.keys3) in
-    (omega (arith, (accepted_sizes _ s.requires.good).processes, planned), s.requires.whole)
+    let planned = c.requires.fits.marks (rw c.in-5.is) in
+    (omega (arith, (accepted_sizes _ c.requires.good).processes, planned), c.requires.whole)
 
-marks : tie.Need-returns-3
+marks : tie.Need-returns-in-5
 unfolding on_deed
-marks c = follows c.mark.ensures.0 (rw c.before.match.keys3)
+marks c = follows c.mark.ensures.0 (rw c.in-5.is)
 
-commits : tie.Need-returns-4
+commits : tie.Need-returns-in-7
 unfolding on_deed
-commits c = follows c.commit.ensures (rw c.before.match.keys4)
+commits c = follows c.commit.ensures (rw c.in-7.is)
 
-forgets : tie.Need-returns-5
+forgets : tie.Need-returns-in-8
 unfolding on_deed
-forgets c = follows c.forget.ensures (rw c.before.match.keys5)
+forgets c = follows c.forget.ensures (rw c.in-8.is)
 
-recovers : tie.Need-returns-6
+recovers : tie.Need-returns-in-9
 unfolding on_deed
-recovers c = follows c.recover.ensures (rw c.before.match.keys6)
+recovers c = follows c.recover.ensures (rw c.in-9.is)
 
-leaves : tie.Need-returns-7
+leaves : tie.Need-returns-in_default
 unfolding on_deed
 leaves c =
-    let s = c.before.before.before in
-    let other = c.match.rest in
+    let other = c.in_default.in_default-own.rest in
     record {
       seen = simp (
         ne_eqb _ 1 other.0.0.0.0.0.1,
@@ -67,7 +64,7 @@ leaves c =
         ne_eqb _ 8 other.0.1,
         ne_eqb _ 9 other.1,
       );
-      whole = s.requires.whole;
+      whole = c.requires.whole;
       grown = λ p. omega arith;
     }
 

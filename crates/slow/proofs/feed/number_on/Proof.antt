@@ -13,36 +13,34 @@ use Rattle.slow.proofs.Feeding.{on_events_more}
 use Rattle.slow.proofs.feed.number_on.Statement.{statement}
 use Rattle.slow.proofs.feed.number_on.Tie as tie
 
-abbrev invariant-loop : tie.invariant-loop
+abbrev invariant-loop : tie.invariant-loop-k
 invariant-loop p sends channel n past histories found₀ k₀ found k =
     (k ≤ n) × (found ≤ k) × (found ≡ length (on_events (deed_at past) histories p sends channel k))
 
-abbrev decreases-loop : tie.decreases-loop
+abbrev decreases-loop : tie.decreases-loop-k
 decreases-loop p sends channel n past histories found₀ k₀ found k = n - k
 
-loop-holds : tie.Need-loop-init invariant-loop decreases-loop
+loop-holds : tie.Need-loop-k-init invariant-loop decreases-loop
 unfolding on_events tabulate bodies_on
 loop-holds c = (omega arith, omega arith, refl)
 
-and-one-requires : tie.Need-and-one-requires invariant-loop decreases-loop
+and-one-requires : tie.Need-and_one-found-requires invariant-loop decreases-loop
 and-one-requires c κs =
-    let turn = c.before.before.before.before.before.before in
-    omega (arith, turn.before.loop.invariant.1, turn.loop-test.true, turn.before.before.requires.1)
+    omega (arith, c.loop-k.invariant.1, c.loop-k-test.true, c.requires.1)
 
-loop-again : tie.Need-loop-preserved invariant-loop decreases-loop
+loop-again : tie.Need-loop-k-preserved invariant-loop decreases-loop
 loop-again c =
-    let turn = c.before.before.before.before.before.before.before in
-    let l = turn.before.loop in
-    let a = turn.before.before.args in (
+    let l = c.loop-k in
+    let a = c.args in (
       omega arith,
-      at_most c.before.both.result c.and_one.ensures l.invariant.1,
-      cc (on_events_more (deed_at a.t1) a.t2 a.p a.sends a.channel l.k),
+      at_most c.both.result c.and_one-found.ensures l.invariant.1,
+      cc (on_events_more (deed_at a.past) a.histories a.p a.sends a.channel l.k),
     )
 
 returns : tie.Need-returns invariant-loop decreases-loop
 returns c =
-    let l = c.before.loop in
-    let e : l.k ≡ c.before.before.args.n = omega arith in (rw e at l.invariant.2, omega (arith, l.invariant.1))
+    let l = c.loop-k in
+    let e : l.k ≡ c.args.n = omega arith in (rw e at l.invariant.2, omega (arith, l.invariant.1))
 
 pub number_on_spec : {M : Type 1} → statement M
 number_on_spec =

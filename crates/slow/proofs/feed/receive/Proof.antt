@@ -12,49 +12,45 @@ use Rattle.slow.proofs.feed.receive.Statement.{statement}
 use Rattle.slow.proofs.feed.receive.Tie as tie
 
 -- where the channel's receiver is known
-module _ (d : tie.After-channel-number) where
+module _ (d : tie.After-channel_number-p) where
   abbrev start : tie.Start
   start = d.before.before.before
 
   abbrev deed : Deed
-  deed = deed_at start.args.t2 start.args.i
+  deed = deed_at start.args.past start.args.i
 
-  at : d.channel-number.result ≡ receiver start.args.topology deed.channel
+  at : d.channel_number-p.result ≡ receiver start.args.topology deed.channel
   unfolding receiver
-  at = d.channel-number.ensures
+  at = d.channel_number-p.ensures
 
   fit : (sender start.args.topology deed.channel < 16) × (receiver start.args.topology deed.channel < 16)
   fit =
-      let may = start.pre.1 in
-      ends_fit start.args.topology may.good deed.channel (may.fits.receives start.pre.0)
+      let may = start.requires.1 in
+      ends_fit start.args.topology may.good deed.channel (may.fits.receives start.requires.0)
 
-marker : tie.Need-returns
+marker : tie.Need-returns-then-d
 unfolding on_receipt
 marker c =
-    let mark = c.before in
-    let d = mark.before.before.before in
-    follows mark.mark-unmarked.ensures.0 (rw (at d, mark.before.either.ensures, c.if1.true))
+    let d = c.before.before.before.before in
+    follows c.mark_unmarked-now.ensures.0 (rw (at d, c.either.ensures, c.if-d.true))
 
 add-requires : tie.Need-add-requires
 add-requires c κs =
-    let mark = c.before in
-    let d = mark.before.before.before in
-    let marked = mark.mark-unmarked.ensures in
+    let d = c.before.before.before.before in
+    let marked = c.mark_unmarked-now.ensures in
     (rw (at d) (fit d).1, rw marked.1 ((start d).requires.1.room _), marked.0.whole)
 
-body : tie.Need-returns-2
+body : tie.Need-returns
 body c =
-    let mark = c.before.before in
-    let asked = mark.before.before in
-    let d = asked.before in
+    let d = c.before.before.before.before.before in
     let s = start d in
-    let f = deed_at s.args.t2 in
+    let f = deed_at s.args.past in
     record {
-      seen = receives_body s.args.topology (deed d) (history_seen f s.args.histories) _ _ _ _ _ s.pre.0
-          c.before.if1.false (at d) asked.after-mark.ensures mark.before.either.ensures
-          (mark.mark-unmarked.ensures.0.seen f) (c.add.ensures.seen f);
+      seen = receives_body s.args.topology (deed d) (history_seen f s.args.histories) _ _ _ _ _ s.requires.0
+          c.if-d.false (at d) c.after_mark-after.ensures c.either.ensures
+          (c.mark_unmarked-now.ensures.0.seen f) (c.add.ensures.seen f);
       whole = c.add.ensures.whole;
-      grown = λ p. rw mark.mark-unmarked.ensures.1 at (c.add.ensures.grown p);
+      grown = λ p. rw c.mark_unmarked-now.ensures.1 at (c.add.ensures.grown p);
     }
 
 pub receive_spec : {M : Type 1} → statement M

@@ -8,11 +8,10 @@ use Rattle.slow.proofs.histories.add.Tie as tie
 
 returns : tie.Need-returns
 returns c =
-    let s = c.before in
-    let b = s.args.t1 in
-    let sizes = arrays b _ s.well-formed.0 in
-    adds b s.requires.2 s.args.p s.args.i (omega (arith, sizes.counts, s.requires.0)) sizes.entries s.requires.0
-    s.requires.1
+    let b = c.args.histories in
+    let sizes = arrays b _ c.well_formed.0 in
+    adds b c.requires.2 c.args.p c.args.i (omega (arith, sizes.counts, c.requires.0)) sizes.entries c.requires.0
+    c.requires.1
 
 pub add_spec : {M : Type 1} → statement M
 add_spec =

@@ -6,8 +6,7 @@ use Rattle.slow.proofs.histories.commit.Tie as tie
 
 returns : tie.Need-returns
 returns c =
-    let told = c.before in
-    let s = told.before.before.before in finishes s.args.histories s.requires _ told.line_of.ensures
+    finishes c.args.histories c.requires _ c.line_of-next.ensures
 
 pub commit_spec : {M : Type 1} → statement M
 commit_spec = tie.close (tie.spec (λ c κs. search rules) returns)

@@ -27,43 +27,41 @@ beyond lines marks q l m (fails e) =
     let far : length lines ≤ q = omega (arith, ltb-false q 16 e) in
     rw (e, get_or-eq_default marks 65535 out, get_or-eq_default lines 0 far)
 
-abbrev invariant-loop : tie.invariant-loop
+abbrev invariant-loop : tie.invariant-loop-p
 invariant-loop lines marks next₀ p₀ next p =
     (p ≤ 16) × (length next ≡ 16) × ((λ (q : ℕ). get_or next q 0) ≡ filled_below p (at lines marks) 0)
 
-abbrev decreases-loop : tie.decreases-loop
+abbrev decreases-loop : tie.decreases-loop-p
 decreases-loop lines marks next₀ p₀ next p = 16 - p
 
-loop-holds : tie.Need-loop-init invariant-loop decreases-loop
-loop-holds c = (omega arith, refl, seen_replicate 16 0 ∙ filled_none (at c.args.t1 c.args.t2) 0)
+loop-holds : tie.Need-loop-p-init invariant-loop decreases-loop
+loop-holds c = (omega arith, refl, seen_replicate 16 0 ∙ filled_none (at c.args.lines c.args.marks) 0)
 
-loop-again : tie.Need-loop-preserved invariant-loop decreases-loop
+loop-again : tie.Need-loop-p-preserved invariant-loop decreases-loop
 loop-again c =
-    let l = c.before.before.loop in
-    let s = c.before.before.before in
-    let inside : l.p < 16 = c.before.loop-test.true in (
+    let l = c.loop-p in
+    let inside : l.p < 16 = c.loop-p-test.true in (
       omega arith,
       length-set l.next l.p _ ∙ l.invariant.1,
-      filled_more (λ x. x) l.next 0 c.place.result l.p (at s.args.t1 s.args.t2) 0
+      filled_more (λ x. x) l.next 0 c.place.result l.p (at c.args.lines c.args.marks) 0
           (omega (arith, l.invariant.1)) l.invariant.2
           (c.place.ensures
-          ∙ ap (λ (m : ℕ). mark_or (mark_of m) (get_or s.args.t1 l.p 0))
-          (get_d_within s.args.t2 l.p _ 65535 (omega (arith, s.well-formed.1.0.1.0.1)))),
+          ∙ ap (λ (m : ℕ). mark_or (mark_of m) (get_or c.args.lines l.p 0))
+          (get_d_within c.args.marks l.p _ 65535 (omega (arith, c.well_formed.1.0.1.0.1)))),
     )
 
 returns : tie.Need-returns invariant-loop decreases-loop
 returns c =
-    let s = c.before.before in
-    let e : c.before.loop.p ≡ 16 = omega arith in
-    let filled = rw e at c.before.loop.invariant.2 in
+    let e : c.loop-p.p ≡ 16 = omega arith in
+    let filled = rw e at c.loop-p.invariant.2 in
     record {
       at = λ q. ap (λ (g : ℕ → ℕ). g q) filled
-          ∙ beyond s.args.t1 s.args.t2 q s.well-formed.0.1.0.1 s.well-formed.1.0.1.0.1 (test (ltb q 16));
+          ∙ beyond c.args.lines c.args.marks q c.well_formed.0.1.0.1 c.well_formed.1.0.1.0.1 (test (ltb q 16));
     }
 
 pub line_of_spec : {M : Type 1} → statement M
 line_of_spec =
     tie.close
-    (tie.spec invariant-loop decreases-loop loop-holds (λ c. omega arith) (λ c. omega arith) (λ c. omega arith) (λ c. omega arith)
-    (λ c. omega arith) (λ c. omega arith) (λ c κs. search rules) (λ c. omega arith) (λ c. omega arith)
-    (λ c. omega arith) (λ c. omega arith) (λ c. omega arith) loop-again returns)
+    (tie.spec invariant-loop decreases-loop loop-holds (λ c. omega arith) (λ c. omega arith) (λ c. omega arith)
+    (λ c. omega arith) (λ c. omega arith) (λ c. omega arith) (λ c κs. search rules) (λ c. omega arith)
+    (λ c. omega arith) (λ c. omega arith) (λ c. omega arith) (λ c. omega arith) loop-again returns)

@@ -9,9 +9,8 @@ use Rattle.slow.proofs.histories.mark.Tie as tie
 
 returns : tie.Need-returns
 returns c =
-    let s = c.before in
-    let b = s.args.t1 in
-    (marks_it b s.requires.1 s.args.p (omega (arith, (arrays b _ s.well-formed.0).marks, s.requires.0)), refl)
+    let b = c.args.histories in
+    (marks_it b c.requires.1 c.args.p (omega (arith, (arrays b _ c.well_formed.0).marks, c.requires.0)), refl)
 
 pub mark_spec : {M : Type 1} → statement M
 mark_spec =

@@ -6,28 +6,23 @@ use Rattle.slow.proofs.Changes.{same_histories, becomes_otherwise, stays_marked,
 use Rattle.slow.proofs.histories.mark_unmarked.Statement.{statement}
 use Rattle.slow.proofs.histories.mark_unmarked.Tie as tie
 
-unasked : tie.Need-returns
+unasked : tie.Need-returns-then-not-yes
 unasked c =
-    let s = c.before in
-    (same_histories s.args.histories s.requires.1 _ (λ f. rw (not-true s.args.yes c.if1.true)), refl)
+    (same_histories c.args.histories c.requires.1 _ (λ f. rw (not-true c.args.yes c.if-not-yes.true-raw)), refl)
 
-stays : tie.Need-returns-2
+stays : tie.Need-returns-then-marked
 stays c =
-    let asked = c.before.before in
-    let s = asked.before in
-    let has = sym c.before.marked.ensures ∙ c.if2.true in (
-      same_histories s.args.histories s.requires.1 _
-          (λ f. rw (not-false s.args.yes asked.if1.false) (sym (stays_marked f _ s.args.p has))),
+    let has = sym c.marked.ensures ∙ c.if-marked.true in (
+      same_histories c.args.histories c.requires.1 _
+          (λ f. rw (not-false c.args.yes c.if-not-yes.false-raw) (sym (stays_marked f _ c.args.p has))),
       refl,
     )
 
-gets : tie.Need-returns-3
+gets : tie.Need-returns
 gets c =
-    let asked = c.before.before.before in
-    let s = asked.before in
-    let none = sym c.before.before.marked.ensures ∙ c.before.if2.false in (
+    let none = sym c.marked.ensures ∙ c.if-marked.false in (
       becomes_otherwise c.mark.ensures.0
-          (λ f. rw (not-false s.args.yes asked.if1.false) (sym (gets_marked f _ s.args.p none))),
+          (λ f. rw (not-false c.args.yes c.if-not-yes.false-raw) (sym (gets_marked f _ c.args.p none))),
       c.mark.ensures.1,
     )
 

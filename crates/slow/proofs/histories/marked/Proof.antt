@@ -11,10 +11,9 @@ use Rattle.slow.proofs.histories.marked.Tie as tie
 
 returns : tie.Need-returns
 returns c =
-    let s = c.before in
-    let b = s.args.t1 in
+    let b = c.args.histories in
     ap (λ (m : ℕ). leb m 256)
-    (get_d_within b.marks s.args.p _ 65535 (omega (arith, (arrays b _ s.well-formed.0).marks, s.requires)))
+    (get_d_within b.marks c.args.p _ 65535 (omega (arith, (arrays b _ c.well_formed.0).marks, c.requires)))
 
 pub marked_spec : {M : Type 1} → statement M
 marked_spec = tie.close (tie.spec (λ c. search rules) (λ c. search rules) returns)

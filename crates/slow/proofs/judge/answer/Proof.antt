@@ -4,23 +4,22 @@ use Rattle.model.specs.Outcome.{refusal_of}
 use Rattle.slow.proofs.judge.answer.Statement.{statement}
 use Rattle.slow.proofs.judge.answer.Tie as tie
 
-accepted : tie.Need-returns
+accepted : tie.Need-returns-in_default
 unfolding refusal_of
 accepted c =
-    let verdict = c.before.before in
-    let asked = verdict.before.before.refusal in
+    let asked = c.refusal-verdict in
     record {
-      outcome = rw (← asked.ensures, verdict.enum_told.given.1) c.before.says.ensures;
-      made = rw (← asked.ensures, verdict.enum_told.given.1) c.writes.ensures;
+      outcome = rw (← asked.ensures, c.in_default.is) c.says.ensures;
+      made = rw (← asked.ensures, c.in_default.is) c.writes.ensures;
     }
 
-refused : tie.Need-returns-2
+refused : tie.Need-returns
 unfolding refusal_of
 refused c =
-    let asked = c.before.before.before.refusal in
+    let asked = c.refusal-verdict in
     record {
-      outcome = rw (← asked.ensures, c.before.verdict.given.1);
-      made = rw (← asked.ensures, c.before.verdict.given.1);
+      outcome = rw (← asked.ensures, c.in-Refuse.is);
+      made = rw (← asked.ensures, c.in-Refuse.is);
     }
 
 pub answer_spec : {M : Type 1} → statement M

@@ -5,16 +5,15 @@ use Rattle.model.specs.State.{view}
 use Rattle.slow.proofs.judge.no_such.Statement.{statement}
 use Rattle.slow.proofs.judge.no_such.Tie as tie
 
-of-channel : tie.Need-returns
+of-channel : tie.Need-returns-then-uses_channel
 unfolding no_such view
 of-channel c =
-    let tested = c.before.before in rw (← tested.before.uses-channel.ensures, tested.if1.true)
+    rw (← c.uses_channel.ensures, c.if-uses_channel.true)
 
-of-process : tie.Need-returns-2
+of-process : tie.Need-returns
 unfolding no_such view
 of-process c =
-    let tested = c.before.before.before.before in
-    rw (← tested.before.uses-channel.ensures, tested.if1.false) (cc)
+    rw (← c.uses_channel.ensures, c.if-uses_channel.false) (cc)
 
 pub no_such_spec : {M : Type 1} → statement M
 no_such_spec =

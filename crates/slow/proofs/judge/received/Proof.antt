@@ -3,8 +3,8 @@ use borrow.Author.Rules.{rules}
 use Rattle.slow.proofs.judge.received.Statement.{statement}
 use Rattle.slow.proofs.judge.received.Tie as tie
 
-returns : tie.Need-returns
-returns c = rw c.before.e.given.1
+returns : tie.Need-returns-in-Message
+returns c = rw c.in-Message.is
 
 pub received_spec : {M : Type 1} → statement M
 received_spec =

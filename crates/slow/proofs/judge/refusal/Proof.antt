@@ -8,27 +8,21 @@ use Rattle.slow.proofs.judge.refusal.Tie as tie
 returns : tie.Need-returns
 unfolding turned_down refusal_of
 returns c =
-    let now = c.before.before in
-    let line = now.before.before in
-    let entry = line.before.before in
-    let closing = entry.before.before in
-    let room = closing.before.before in
-    let log = room.before.before in
     rw (
-      c.unless7.ensures,
-      c.before.no_such.ensures,
-      now.unless6.ensures,
-      now.before.refuses.ensures,
-      line.unless5.ensures,
-      line.before.no-line-left.ensures,
-      entry.unless4.ensures,
-      entry.before.nothing-there.ensures,
-      closing.unless3.ensures,
-      closing.before.closed-before.ensures,
-      room.unless2.ensures,
-      room.before.no_room.ensures,
-      log.unless.ensures,
-      log.before.log-full.ensures,
+      c.unless.ensures,
+      c.no_such.ensures,
+      c.unless-now.ensures,
+      c.refuses.ensures,
+      c.unless-line.ensures,
+      c.no_line_left.ensures,
+      c.unless-entry.ensures,
+      c.nothing_there.ensures,
+      c.unless-open.ensures,
+      c.closed_before.ensures,
+      c.unless-room.ensures,
+      c.no_room.ensures,
+      c.unless-log.ensures,
+      c.log_full.ensures,
     )
 
 pub refusal_spec : {M : Type 1} → statement M

@@ -7,22 +7,22 @@ use Rattle.model.specs.State.{view}
 use Rattle.slow.proofs.judge.says.Statement.{statement}
 use Rattle.slow.proofs.judge.says.Tie as tie
 
-of_send : tie.Need-returns
+of_send : tie.Need-returns-in-1
 unfolding says view
-of_send c = rw c.before.before.match.keys1 (simp entries_count (cc))
+of_send c = rw c.in-1.is (simp entries_count (cc))
 
-of-receive : tie.Need-returns-2
+of-receive : tie.Need-returns-in-2
 unfolding says
-of-receive c = rw c.before.before.match.keys2 (cc)
+of-receive c = rw c.in-2.is (cc)
 
-of-recover : tie.Need-returns-3
+of-recover : tie.Need-returns-in-9
 unfolding says view
-of-recover c = rw c.match.keys3
+of-recover c = rw c.in-9.is
 
-of_other : tie.Need-returns-4
+of_other : tie.Need-returns-in_default
 unfolding says
 of_other c =
-    let other = c.match.rest in
+    let other = c.in_default.in_default-own.rest in
     simp (ne_eqb _ 1 other.0.0.1, ne_eqb _ 2 other.0.1, ne_eqb _ 9 other.1)
 
 pub says_spec : {M : Type 1} → statement M

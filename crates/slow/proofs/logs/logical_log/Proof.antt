@@ -3,11 +3,11 @@ use borrow.Author.Rules.{rules}
 use Rattle.slow.proofs.logs.logical_log.Statement.{statement}
 use Rattle.slow.proofs.logs.logical_log.Tie as tie
 
-of-late : tie.Need-returns
-of-late c = rw c.before.before.if1.true (cc)
+of-late : tie.Need-returns-then-late
+of-late c = rw c.if-late.true (cc)
 
-of-early : tie.Need-returns-2
-of-early c = rw c.before.if1.false (cc)
+of-early : tie.Need-returns
+of-early c = rw c.if-late.false (cc)
 
 pub logical_log_spec : {M : Type 1} → statement M
 logical_log_spec =

@@ -15,16 +15,16 @@ unfolding message_log_needed
 same_log p true logical saved differs = refl
 same_log p false logical saved differs = refl
 
-in-idle : tie.Need-returns
+in-idle : tie.Need-returns-in-Idle
 unfolding message_log_needed
 in-idle c = search rules
 
-in_physical : tie.Need-returns-2
+in_physical : tie.Need-returns-in-Physical
 unfolding message_log_needed
-in_physical c = rw c.before.before.phase.given.1 (cc)
+in_physical c = rw c.in-Physical.is (cc)
 
-in-logical : tie.Need-returns-3
-in-logical c = rw c.before.enum-told2.given.1 (c.logical-log.ensures ∙ same_log _ _ _ _ _)
+in-logical : tie.Need-returns-in-Logical
+in-logical c = rw c.in-Logical.is (c.logical_log.ensures ∙ same_log _ _ _ _ _)
 
 pub message_log_spec : {M : Type 1} → statement M
 message_log_spec =

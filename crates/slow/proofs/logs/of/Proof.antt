@@ -4,13 +4,13 @@ use Rattle.account.specs.Judging.{logs_of}
 use Rattle.slow.proofs.logs.of.Statement.{statement}
 use Rattle.slow.proofs.logs.of.Tie as tie
 
-of-marker : tie.Need-returns
+of-marker : tie.Need-returns-in_default
 unfolding logs_of
-of-marker c = rw c.enum_told.given.1
+of-marker c = rw c.in_default.is
 
-of-message : tie.Need-returns-2
+of-message : tie.Need-returns
 unfolding logs_of
-of-message c = rw c.before.before.e.given.1 c.of-message.ensures
+of-message c = rw c.in-Message.is c.of_message.ensures
 
 pub of_spec : {M : Type 1} → statement M
 of_spec =

@@ -10,10 +10,10 @@ at_most : (t : Bool) (n : ℕ) → cond t n 0 ≤ n
 at_most true n = omega arith
 at_most false n = omega arith
 
-sum_fits : tie.Need-overflow-add-result
+sum_fits : tie.Need-overflow_add-result
 sum_fits c =
-    let l = c.before.before.args.logs in
-    omega (arith, c.before.cells.ensures, c.cells2.ensures, at_most l.channel 2, at_most l.message 3)
+    let l = c.args.logs in
+    omega (arith, c.cells.ensures, c.cells-2.ensures, at_most l.channel 2, at_most l.message 3)
 
 pub writes_spec : {M : Type 1} → statement M
 writes_spec =

@@ -6,10 +6,9 @@ use native.Mathlib.Omega.{arith}
 use Rattle.slow.proofs.look.channel_number.Statement.{statement}
 use Rattle.slow.proofs.look.channel_number.Tie as tie
 
-past-array : tie.Need-returns
+past-array : tie.Need-returns-then-c-ge-CHANNELS
 past-array c =
-    let s = c.before in
-    sym (get_or-eq_default s.args.t1 0 (omega (arith, s.well-formed.0.1.0.1, c.if1.true)))
+    sym (get_or-eq_default c.args.numbers 0 (omega (arith, c.well_formed.0.1.0.1, c.if-c-ge-CHANNELS.true)))
 
 pub channel_number_spec : {M : Type 1} → statement M
 channel_number_spec =

@@ -9,6 +9,6 @@ unfolding entry_of
 entry_spec =
     tie.close
     (tie.spec
-    (λ c. rw c.match.keys1)
-    (λ c. rw c.match.keys2)
-    (λ c. simp (ne_eqb _ 0 c.match.rest.0.1, ne_eqb _ 1 c.match.rest.1)))
+    (λ c. rw c.in-0.is)
+    (λ c. rw c.in-1.is)
+    (λ c. simp (ne_eqb _ 0 c.in_default.in_default-own.rest.0.1, ne_eqb _ 1 c.in_default.in_default-own.rest.1)))

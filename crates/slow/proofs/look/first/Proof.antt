@@ -8,24 +8,21 @@ use Rattle.slow.proofs.FirstEntry.{first_none, first_some}
 use Rattle.slow.proofs.look.first.Statement.{statement}
 use Rattle.slow.proofs.look.first.Tie as tie
 
-none-there : tie.Need-returns
+none-there : tie.Need-returns-then-channel_number-eq0
 none-there c =
-    let s = c.before.before.before.args in
-    c.entry.ensures ∙ sym (first_none s.t1 s.lengths s.c (cc))
+    let s = c.args in
+    c.entry.ensures ∙ sym (first_none s.places s.lengths s.c (cc))
 
-past-array : tie.Need-returns-2
+past-array : tie.Need-returns-then-c-ge-CHANNELS
 past-array c =
-    let s = c.before.before.before.before in
-    let none : get_or s.args.lengths s.args.c 0 ≡ 0 =
-    get_or-eq_default s.args.lengths 0 (omega (arith, s.well-formed.0.1.0.1, c.before.if2.true)) in
-    c.entry2.ensures ∙ sym (first_none s.args.t1 s.args.lengths s.args.c none)
+    let none : get_or c.args.lengths c.args.c 0 ≡ 0 =
+    get_or-eq_default c.args.lengths 0 (omega (arith, c.well_formed.0.1.0.1, c.if-c-ge-CHANNELS.true)) in
+    c.entry-then-c-ge-CHANNELS.ensures ∙ sym (first_none c.args.places c.args.lengths c.args.c none)
 
-found : tie.Need-returns-3
+found : tie.Need-returns
 found c =
-    let tested = c.before.before.before.before in
-    let s = tested.before.before.before in
-    let within : s.args.c < length s.args.t1 = omega (arith, s.well-formed.0.1.0.1, tested.if2.false) in
-    c.entry3.ensures ∙ sym (first_some s.args.t1 s.args.lengths s.args.c _ within (omega arith))
+    let within : c.args.c < length c.args.places = omega (arith, c.well_formed.0.1.0.1, c.if-c-ge-CHANNELS.false) in
+    c.entry-2.ensures ∙ sym (first_some c.args.places c.args.lengths c.args.c _ within (omega arith))
 
 pub first_spec : {M : Type 1} → statement M
 first_spec =

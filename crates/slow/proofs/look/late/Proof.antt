@@ -7,7 +7,7 @@ use Rattle.model.specs.Notation.{bit_of}
 use Rattle.slow.proofs.look.late.Statement.{statement}
 use Rattle.slow.proofs.look.late.Tie as tie
 
-within : tie.Need-returns-2
+within : tie.Need-returns
 unfolding bit_of
 within c = refl
 

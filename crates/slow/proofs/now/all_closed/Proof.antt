@@ -9,23 +9,23 @@ use Rattle.model.specs.State.{view, view_progress}
 use Rattle.slow.proofs.now.all_closed.Statement.{statement}
 use Rattle.slow.proofs.now.all_closed.Tie as tie
 
-abbrev invariant-loop : tie.invariant-loop
+abbrev invariant-loop : tie.invariant-loop-c
 invariant-loop n closed all₀ c₀ all c = SoFar (λ i. get_or closed i false) n c all
 
-abbrev decreases-loop : tie.decreases-loop
+abbrev decreases-loop : tie.decreases-loop-c
 decreases-loop n closed all₀ c₀ all c = n - c
 
-loop-again : tie.Need-loop-preserved invariant-loop decreases-loop
+loop-again : tie.Need-loop-c-preserved invariant-loop decreases-loop
 loop-again c =
-    let l = c.before.before.before.loop in
-    rw c.both.ensures (one_more l.invariant c.before.before.loop-test.true c.before.channel-flag.ensures)
+    let l = c.loop-c in
+    rw c.both-all.ensures (one_more l.invariant c.loop-c-test.true c.channel_flag.ensures)
 
 returns : tie.Need-returns invariant-loop decreases-loop
 unfolding view view_progress
-returns c = all_tested c.before.loop.invariant (λ l. omega (arith, l))
+returns c = all_tested c.loop-c.invariant (λ l. omega (arith, l))
 
 pub all_closed_spec : {M : Type 1} → statement M
 all_closed_spec =
     tie.close
-    (tie.spec invariant-loop decreases-loop (λ c. none_yet) (λ c κs. search rules) (λ c κs. search rules) (λ c. omega arith)
-    (λ c. omega arith) loop-again returns)
+    (tie.spec invariant-loop decreases-loop (λ c. none_yet) (λ c κs. search rules) (λ c κs. search rules)
+    (λ c. omega arith) (λ c. omega arith) loop-again returns)

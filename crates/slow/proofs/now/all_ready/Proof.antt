@@ -8,23 +8,23 @@ use Rattle.model.specs.State.{view}
 use Rattle.slow.proofs.now.all_ready.Statement.{statement}
 use Rattle.slow.proofs.now.all_ready.Tie as tie
 
-abbrev invariant-loop : tie.invariant-loop
+abbrev invariant-loop : tie.invariant-loop-p
 invariant-loop s n all₀ p₀ all p = SoFar (ready (view s)) n p all
 
-abbrev decreases-loop : tie.decreases-loop
+abbrev decreases-loop : tie.decreases-loop-p
 decreases-loop s n all₀ p₀ all p = n - p
 
-loop-again : tie.Need-loop-preserved invariant-loop decreases-loop
+loop-again : tie.Need-loop-p-preserved invariant-loop decreases-loop
 loop-again c =
-    let l = c.before.before.before.loop in
-    rw c.both.ensures (one_more l.invariant c.before.before.loop-test.true c.before.is-ready.ensures)
+    let l = c.loop-p in
+    rw c.both-all.ensures (one_more l.invariant c.loop-p-test.true c.is_ready.ensures)
 
 returns : tie.Need-returns invariant-loop decreases-loop
 unfolding view
-returns c = all_tested c.before.loop.invariant (λ l. omega (arith, l))
+returns c = all_tested c.loop-p.invariant (λ l. omega (arith, l))
 
 pub all_ready_spec : {M : Type 1} → statement M
 all_ready_spec =
     tie.close
-    (tie.spec invariant-loop decreases-loop (λ c. none_yet) (λ c κs. search rules) (λ c κs. search rules) (λ c. omega arith)
-    (λ c. omega arith) loop-again returns)
+    (tie.spec invariant-loop decreases-loop (λ c. none_yet) (λ c κs. search rules) (λ c κs. search rules)
+    (λ c. omega arith) (λ c. omega arith) loop-again returns)

@@ -6,15 +6,14 @@ use Rattle.model.specs.Topology.{is_late}
 use Rattle.slow.proofs.now.physical_now.Statement.{statement}
 use Rattle.slow.proofs.now.physical_now.Tie as tie
 
-of-late : tie.Need-returns
+of-late : tie.Need-returns-then-late
 unfolding physical_now view view_progress is_late
 of-late c =
-    let test = c.before.before.before.before.before in
-    rw (← test.before.late.ensures, test.if1.true) (cc)
+    rw (← c.late.ensures, c.if-late.true) (cc)
 
-of-early : tie.Need-returns-2
+of-early : tie.Need-returns
 unfolding physical_now view is_late
-of-early c = rw (← c.before.before.late.ensures, c.before.if1.false) (cc)
+of-early c = rw (← c.late.ensures, c.if-late.false) (cc)
 
 pub physical_now_spec : {M : Type 1} → statement M
 physical_now_spec =

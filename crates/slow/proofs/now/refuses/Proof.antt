@@ -6,34 +6,34 @@ use Rattle.model.specs.State.{view}
 use Rattle.slow.proofs.now.refuses.Statement.{statement}
 use Rattle.slow.proofs.now.refuses.Tie as tie
 
-of-begin : tie.Need-returns
+of-begin : tie.Need-returns-in-3
 unfolding not_now view
-of-begin c = rw c.before.match.keys1 (cc)
+of-begin c = rw c.in-3.is (cc)
 
-of-physical : tie.Need-returns-2
+of-physical : tie.Need-returns-in-4
 unfolding not_now
-of-physical c = rw c.before.match.keys2 (cc)
+of-physical c = rw c.in-4.is (cc)
 
-of-logical : tie.Need-returns-3
+of-logical : tie.Need-returns-in-5
 unfolding not_now
-of-logical c = rw c.before.match.keys3 (cc)
+of-logical c = rw c.in-5.is (cc)
 
-of-marker : tie.Need-returns-4
+of-marker : tie.Need-returns-in-6
 unfolding not_now
-of-marker c = rw c.before.match.keys4 (cc)
+of-marker c = rw c.in-6.is (cc)
 
-of-commit : tie.Need-returns-5
+of-commit : tie.Need-returns-in-7
 unfolding not_now
-of-commit c = rw c.before.match.keys5 (cc)
+of-commit c = rw c.in-7.is (cc)
 
-of-abort : tie.Need-returns-6
+of-abort : tie.Need-returns-in-8
 unfolding not_now view
-of-abort c = rw c.before.match.keys6 (cc)
+of-abort c = rw c.in-8.is (cc)
 
-of_other : tie.Need-returns-7
+of_other : tie.Need-returns-in_default
 unfolding not_now
 of_other c =
-    let other = c.match.rest in
+    let other = c.in_default.in_default-own.rest in
     simp (
       ne_eqb _ 3 other.0.0.0.0.0.1,
       ne_eqb _ 4 other.0.0.0.0.1,

@@ -15,9 +15,9 @@ use Rattle.slow.proofs.past.add.Tie as tie
 returns : tie.Need-returns
 unfolding past_of
 returns c =
-    let p = c.args.t1 in
+    let p = c.args.past in
     let d = c.args.deed in
-    let inside : p.count < length p.deeds = omega (arith, deeds_length p _ c.well-formed.0) in (
+    let inside : p.count < length p.deeds = omega (arith, deeds_length p _ c.well_formed.0) in (
       omega arith,
       latest_more p.count (λ i. get_or (set p.deeds p.count d) i nothing)
           ∙ ap₂ ◌∷◌ (get_or-set_same p.deeds p.count d nothing inside)

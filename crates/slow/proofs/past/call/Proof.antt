@@ -6,12 +6,12 @@ use Rattle.account.specs.Deeds.{deed_by}
 use Rattle.slow.proofs.past.call.Statement.{statement}
 use Rattle.slow.proofs.past.call.Tie as tie
 
-returns : tie.Need-returns
+returns : tie.Need-returns-in_default
 unfolding deed_by fields_of
-returns c = c.unheard.ensures ∙ rw c.before.enum_told.given.1
+returns c = c.unheard.ensures ∙ rw c.in_default.is
 
-returns-2 : tie.Need-returns-2
-returns-2 c = c.step.ensures ∙ rw c.before.before.content.given.1
+returns-2 : tie.Need-returns
+returns-2 c = c.step.ensures ∙ rw c.in-Call.is
 
 pub call_spec : {M : Type 1} → statement M
 call_spec =

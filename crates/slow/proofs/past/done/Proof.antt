@@ -4,16 +4,15 @@ use Rattle.account.specs.Deeds.{deed_by}
 use Rattle.slow.proofs.past.done.Statement.{statement}
 use Rattle.slow.proofs.past.done.Tie as tie
 
-line : tie.Need-returns
+line : tie.Need-returns-in_default
 unfolding deed_by
-line c = rw (c.before.before.call.ensures, c.enum_told.given.1)
+line c = rw (c.call-asked.ensures, c.in_default.is)
 
-step : tie.Need-returns-2
+step : tie.Need-returns
 unfolding deed_by
 step c =
-    let told = c.before.before.before.before in
-    rw (c.marker-after.ensures, c.before.body-after.ensures, c.before.before.kind-after.ensures)
-    (rw (told.before.before.call.ensures, told.outcome.given.1))
+    rw (c.marker_after.ensures, c.body_after.ensures, c.kind_after.ensures)
+    (rw (c.call-asked.ensures, c.in-Step.is))
 
 pub done_spec : {M : Type 1} → statement M
 done_spec =

@@ -18,21 +18,20 @@ use Rattle.slow.proofs.Pasts.{latest_more}
 use Rattle.slow.proofs.past.of.Statement.{statement}
 use Rattle.slow.proofs.past.of.Tie as tie
 
-abbrev invariant-loop : tie.invariant-loop
+abbrev invariant-loop : tie.invariant-loop-i
 invariant-loop n calls answers past₀ i₀ past i =
     (i ≤ n) × (past.count ≡ i) × (past_of past ≡ latest i (deed_for calls answers))
 
-abbrev decreases-loop : tie.decreases-loop
+abbrev decreases-loop : tie.decreases-loop-i
 decreases-loop n calls answers past₀ i₀ past i = n - i
 
-loop-holds : tie.Need-loop-init invariant-loop decreases-loop
+loop-holds : tie.Need-loop-i-init invariant-loop decreases-loop
 unfolding latest past_of
 loop-holds c = (omega arith, refl, refl)
 
-add-requires : tie.Need-add-requires invariant-loop decreases-loop
+add-requires : tie.Need-add-past-requires invariant-loop decreases-loop
 add-requires c κs =
-    let turn = c.before.before.before in
-    omega (arith, turn.before.loop.invariant.1, turn.loop-test.true, turn.before.before.before.requires)
+    omega (arith, c.loop-i.invariant.1, c.loop-i-test.true, c.requires)
 
 deed_within : (calls : List Listed) (answers : List CallAnswer) (i : ℕ) (d : Listed) (e : CallAnswer)
     → i < length calls → i < length answers
@@ -41,29 +40,26 @@ deed_within : (calls : List Listed) (answers : List CallAnswer) (i : ℕ) (d : L
     ≡ deed_for calls answers i
 deed_within calls answers i d e l m = rw (get_d_within calls i d unlisted l, get_d_within answers i e unanswered m)
 
-loop-again : tie.Need-loop-preserved invariant-loop decreases-loop
+loop-again : tie.Need-loop-i-preserved invariant-loop decreases-loop
 loop-again c =
-    let turn = c.before.before.before.before in
-    let l = turn.before.loop in
-    let s = turn.before.before.before in
-    let inside = turn.loop-test.true in
-    let added = c.add.ensures in (
+    let l = c.loop-i in
+    let inside = c.loop-i-test.true in
+    let added = c.add-past.ensures in (
       omega arith,
       added.0 ∙ ap (λ (k : ℕ). k + 1) l.invariant.1,
       added.1
           ∙ ap₂ ◌∷◌
-          (c.before.done.ensures
-          ∙ deed_within s.args.t1 s.args.t2 l.i _ _ (omega (arith, s.well-formed.0.1.0.1, inside, s.requires))
-          (omega (arith, s.well-formed.1.0.1.0.1, inside, s.requires)))
+          (c.done.ensures
+          ∙ deed_within c.args.calls c.args.answers l.i _ _ (omega (arith, c.well_formed.0.1.0.1, inside, c.requires))
+          (omega (arith, c.well_formed.1.0.1.0.1, inside, c.requires)))
           l.invariant.2
-          ∙ sym (latest_more l.i (deed_for s.args.t1 s.args.t2)),
+          ∙ sym (latest_more l.i (deed_for c.args.calls c.args.answers)),
     )
 
 returns : tie.Need-returns invariant-loop decreases-loop
 returns c =
-    let l = c.before.loop in
-    let s = c.before.before.before in
-    let e : l.i ≡ s.args.n = omega arith in (omega (arith, l.invariant.1, s.requires), rw e at l.invariant.2)
+    let l = c.loop-i in
+    let e : l.i ≡ c.args.n = omega arith in (omega (arith, l.invariant.1, c.requires), rw e at l.invariant.2)
 
 pub of_spec : {M : Type 1} → statement M
 of_spec =

@@ -6,37 +6,37 @@ use Rattle.account.specs.Deeds.{deed_by}
 use Rattle.slow.proofs.past.step.Statement.{statement}
 use Rattle.slow.proofs.past.step.Tie as tie
 
-send : tie.Need-returns
+send : tie.Need-returns-in-Send
 unfolding deed_by fields_of
-send c = c.unheard.ensures ∙ rw c.before.before.x.given.1
+send c = c.unheard.ensures ∙ rw c.in-Send.is
 
-receive : tie.Need-returns-2
+receive : tie.Need-returns-in-Receive
 unfolding deed_by fields_of
-receive c = c.unheard2.ensures ∙ rw c.before.before.x2.given.1
+receive c = c.unheard-in-Receive.ensures ∙ rw c.in-Receive.is
 
-begin : tie.Need-returns-3
+begin : tie.Need-returns-in-Begin
 unfolding deed_by fields_of
-begin c = c.unheard3.ensures ∙ rw c.before.enum_told.given.1
+begin c = c.unheard-in-Begin.ensures ∙ rw c.in-Begin.is
 
-physical-checkpoint : tie.Need-returns-4
+physical-checkpoint : tie.Need-returns-in-PhysicalCheckpoint
 unfolding deed_by fields_of
-physical-checkpoint c = c.unheard4.ensures ∙ rw c.before.before.x3.given.1
+physical-checkpoint c = c.unheard-in-PhysicalCheckpoint.ensures ∙ rw c.in-PhysicalCheckpoint.is
 
-logical-checkpoint : tie.Need-returns-5
+logical-checkpoint : tie.Need-returns-in-LogicalCheckpoint
 unfolding deed_by fields_of
-logical-checkpoint c = c.unheard5.ensures ∙ rw c.before.before.x4.given.1
+logical-checkpoint c = c.unheard-in-LogicalCheckpoint.ensures ∙ rw c.in-LogicalCheckpoint.is
 
-send_marker : tie.Need-returns-6
+send_marker : tie.Need-returns-in-SendMarker
 unfolding deed_by fields_of
-send_marker c = c.unheard6.ensures ∙ rw c.before.before.x5.given.1
+send_marker c = c.unheard-in-SendMarker.ensures ∙ rw c.in-SendMarker.is
 
-commit : tie.Need-returns-7
+commit : tie.Need-returns-in-Commit
 unfolding deed_by fields_of
-commit c = c.unheard7.ensures ∙ rw c.before.enum-told2.given.1
+commit c = c.unheard-in-Commit.ensures ∙ rw c.in-Commit.is
 
-abort : tie.Need-returns-8
+abort : tie.Need-returns-in-Abort
 unfolding deed_by fields_of
-abort c = c.unheard8.ensures ∙ rw c.before.enum-told3.given.1
+abort c = c.unheard-in-Abort.ensures ∙ rw c.in-Abort.is
 
 pub step_spec : {M : Type 1} → statement M
 step_spec =

@@ -7,22 +7,20 @@ use Rattle.slow.proofs.Copying.{next_none}
 use Rattle.slow.proofs.round.after_copy.Statement.{statement}
 use Rattle.slow.proofs.round.after_copy.Tie as tie
 
-late : tie.Need-returns
+late : tie.Need-returns-then-late
 unfolding is_late
-late c = rw (← c.before.late.ensures, c.if1.true)
+late c = rw (← c.late.ensures, c.if-late.true)
 
-beyond : tie.Need-returns-2
+beyond : tie.Need-returns-then-process-eq255
 unfolding is_late
 beyond c =
-    let early = c.before in
-    let last : early.before.before.args.process ≡ 255 = omega arith in
-    rw (← early.before.late.ensures, early.if1.false) (rw last (sym (next_none _ 256 (omega arith))))
+    let last : c.args.process ≡ 255 = omega arith in
+    rw (← c.late.ensures, c.if-late.false) (rw last (sym (next_none _ 256 (omega arith))))
 
-early : tie.Need-returns-3
+early : tie.Need-returns
 unfolding is_late
 early c =
-    let early = c.before.before in
-    c.copying-from.ensures ∙ rw (← early.before.late.ensures, early.if1.false)
+    c.copying_from.ensures ∙ rw (← c.late.ensures, c.if-late.false)
 
 pub after_copy_spec : {M : Type 1} → statement M
 after_copy_spec =

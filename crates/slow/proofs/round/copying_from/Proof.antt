@@ -11,35 +11,31 @@ use Rattle.slow.proofs.Copying.{next_early, next_late, next_none}
 use Rattle.slow.proofs.round.copying_from.Statement.{statement}
 use Rattle.slow.proofs.round.copying_from.Tie as tie
 
-abbrev invariant-loop : tie.invariant-loop
+abbrev invariant-loop : tie.invariant-loop-p
 invariant-loop topology from p₀ p = copying_from topology from ≡ copying_from topology p
 
-abbrev decreases-loop : tie.decreases-loop
+abbrev decreases-loop : tie.decreases-loop-p
 decreases-loop topology from p₀ p = topology.processes - p
 
 -- the process at hand is early
-found : tie.Need-returns invariant-loop decreases-loop
+found : tie.Need-returns-then-not-late invariant-loop decreases-loop
 unfolding is_late
 found c =
-    let asked = c.before in
-    let turn = asked.before in
-    let l = turn.before.before.loop in
-    sym (l.invariant ∙ next_early _ l.p turn.if1.true (sym asked.late.ensures ∙ not-true _ c.if2.true))
+    let l = c.loop-p in
+    sym (l.invariant ∙ next_early _ l.p c.loop-p-test.true (sym c.late.ensures ∙ not-true _ c.if-not-late.true-raw))
 
-loop-again : tie.Need-loop-preserved invariant-loop decreases-loop
+loop-again : tie.Need-loop-p-preserved invariant-loop decreases-loop
 unfolding is_late
 loop-again c =
-    let asked = c.before in
-    let turn = asked.before in
-    let l = turn.before.before.loop in
-    l.invariant ∙ next_late _ l.p turn.if1.true (sym asked.late.ensures ∙ not-false _ c.if2.false)
+    let l = c.loop-p in
+    l.invariant ∙ next_late _ l.p c.loop-p-test.true (sym c.late.ensures ∙ not-false _ c.if-not-late.false-raw)
 
 -- all are late
-none_found : tie.Need-returns-2 invariant-loop decreases-loop
-none_found c = let l = c.before.before.loop in sym (l.invariant ∙ next_none _ l.p c.if1.false)
+none_found : tie.Need-returns invariant-loop decreases-loop
+none_found c = let l = c.loop-p in sym (l.invariant ∙ next_none _ l.p c.loop-p-test.false)
 
 pub copying_from_spec : {M : Type 1} → statement M
 copying_from_spec =
     tie.close
-    (tie.spec invariant-loop decreases-loop (λ c. refl) (λ c κs. search rules) found (λ c. omega arith) (λ c. omega arith)
-    loop-again none_found)
+    (tie.spec invariant-loop decreases-loop (λ c. refl) (λ c κs. search rules) found (λ c. omega arith)
+    (λ c. omega arith) loop-again none_found)

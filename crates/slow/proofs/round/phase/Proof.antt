@@ -7,24 +7,23 @@ use Rattle.slow.proofs.Pasts.{SoFar, starts, goes_on, all_told_lem}
 use Rattle.slow.proofs.round.phase.Statement.{statement}
 use Rattle.slow.proofs.round.phase.Tie as tie
 
-abbrev invariant-loop : tie.invariant-loop
+abbrev invariant-loop : tie.invariant-loop-i
 invariant-loop topology past phase₀ i₀ phase i = SoFar (phase_of topology) past phase i
 
-abbrev decreases-loop : tie.decreases-loop
+abbrev decreases-loop : tie.decreases-loop-i
 decreases-loop topology past phase₀ i₀ phase i = past.count - i
 
-loop-holds : tie.Need-loop-init invariant-loop decreases-loop
+loop-holds : tie.Need-loop-i-init invariant-loop decreases-loop
 unfolding phase_of
 loop-holds c = starts (phase_of _) _
 
-loop-again : tie.Need-loop-preserved invariant-loop decreases-loop
+loop-again : tie.Need-loop-i-preserved invariant-loop decreases-loop
 unfolding phase_of
 loop-again c =
-    let turn = c.before.before in
-    goes_on (phase_of _) _ turn.before.loop.i _ turn.loop-test.true cc
+    goes_on (phase_of _) _ c.loop-i.i _ c.loop-i-test.true cc
 
 returns : tie.Need-returns invariant-loop decreases-loop
-returns c = all_told_lem (phase_of _) _ c.before.loop.invariant c.loop-test.false
+returns c = all_told_lem (phase_of _) _ c.loop-i.invariant c.loop-i-test.false
 
 pub phase_spec : {M : Type 1} → statement M
 phase_spec =

@@ -5,15 +5,15 @@ use borrow.Author.Tests.{ne_eqb}
 use Rattle.slow.proofs.round.phase_after.Statement.{statement}
 use Rattle.slow.proofs.round.phase_after.Tie as tie
 
-begins : tie.Need-returns
-begins c = c.copying-from.ensures ∙ rw c.before.match.keys1
+begins : tie.Need-returns-in-3
+begins c = c.copying_from.ensures ∙ rw c.in-3.is
 
-copies : tie.Need-returns-2
-copies c = c.after-copy.ensures ∙ rw c.before.match.keys2
+copies : tie.Need-returns-in-4
+copies c = c.after_copy.ensures ∙ rw c.in-4.is
 
-stays : tie.Need-returns-6
+stays : tie.Need-returns-in_default
 stays c =
-    let no = c.match.rest in
+    let no = c.in_default.in_default-own.rest in
     simp (
       ne_eqb _ 3 no.0.0.0.0.1,
       ne_eqb _ 4 no.0.0.0.1,
@@ -25,5 +25,5 @@ stays c =
 pub phase_after_spec : {M : Type 1} → statement M
 phase_after_spec =
     tie.close
-    (tie.spec (λ c κs. search rules) (λ c κs. search rules) begins copies (λ c. rw c.match.keys3)
-    (λ c. rw c.match.keys4) (λ c. rw c.match.keys5) stays)
+    (tie.spec (λ c κs. search rules) (λ c κs. search rules) begins copies (λ c. rw c.in-7.is)
+    (λ c. rw c.in-8.is) (λ c. rw c.in-9.is) stays)

@@ -21,23 +21,25 @@ use Rattle.slow.proofs.Standings.{channel_is}
 use Rattle.slow.proofs.standing.channels.Statement.{statement}
 use Rattle.slow.proofs.standing.channels.Tie as tie
 
-abbrev invariant-loop : tie.invariant-loop
-invariant-loop topology past histories n tag places₀ lengths₀ closed₀ sent₀ entries₀ c₀ places lengths closed sent entries c =
+abbrev invariant-loop : tie.invariant-loop-c
+invariant-loop topology past histories n tag places₀ lengths₀ closed₀ sent₀ entries₀ c₀
+    places lengths closed sent entries c =
     (c ≤ n)
     × Holding places lengths c (channel_by topology (past_of past) (history topology past))
     × Filled closed 64 c (λ q. closed_in q (past_of past)) false
     × Filled sent 64 c (λ q. marker_sent q (past_of past)) false
     × Filled entries 64 c (λ q. channel_logged q (past_of past)) 0
 
-abbrev decreases-loop : tie.decreases-loop
-decreases-loop topology past histories n tag places₀ lengths₀ closed₀ sent₀ entries₀ c₀ places lengths closed sent entries c =
+abbrev decreases-loop : tie.decreases-loop-c
+decreases-loop topology past histories n tag places₀ lengths₀ closed₀ sent₀ entries₀ c₀
+    places lengths closed sent entries c =
     n - c
 
-loop-holds : tie.Need-loop-init invariant-loop decreases-loop
+loop-holds : tie.Need-loop-c-init invariant-loop decreases-loop
 unfolding no_places
 loop-holds c =
-    let T = c.before.args.topology in
-    let past = c.before.args.past in (
+    let T = c.args.topology in
+    let past = c.args.past in (
       omega arith,
       none_holding (channel_by T (past_of past) (history T past)),
       none_filled 64 (λ q. closed_in q (past_of past)) false,
@@ -46,24 +48,24 @@ loop-holds c =
     )
 
 -- a channel of the topology is one of 64
-module _ (c : tie.In-loop invariant-loop decreases-loop) where
+module _ (c : tie.In-loop-c invariant-loop decreases-loop) where
   abbrev start : tie.Start invariant-loop decreases-loop
   start = c.before.before.before
 
-  inside : c.before.loop.c < 64
+  inside : c.loop-c.c < 64
   inside =
-      omega (arith, (accepted_sizes start.args.topology start.pre.ready.good).channels, c.loop-test.true)
+      omega (arith, (accepted_sizes start.args.topology start.requires.ready.good).channels, c.loop-c-test.true)
 
 -- what is on it
-module _ (d : tie.After-both invariant-loop decreases-loop) where
-  abbrev turn : tie.In-loop invariant-loop decreases-loop
+module _ (d : tie.After-both-holds invariant-loop decreases-loop) where
+  abbrev turn : tie.In-loop-c invariant-loop decreases-loop
   turn = d.before.before.before
 
   abbrev s : tie.Start invariant-loop decreases-loop
   s = start turn
 
   abbrev i : ℕ
-  i = turn.before.loop.c
+  i = turn.loop-c.c
 
   abbrev told : List Deed
   told = past_of s.args.past
@@ -71,22 +73,22 @@ module _ (d : tie.After-both invariant-loop decreases-loop) where
   abbrev seen : History
   seen = history_seen (deed_at s.args.past) s.args.histories
 
-  holds : d.both.result ≡ holds_marker i told
+  holds : d.both-holds.result ≡ holds_marker i told
   holds =
-      d.both.ensures
-      ∙ ap₂ (λ (x y : Bool). x && not y) d.before.marker-sent.ensures d.before.before.closed.ensures
+      d.both-holds.ensures
+      ∙ ap₂ (λ (x y : Bool). x && not y) d.marker_sent-marker_sent.ensures d.closed-shut.ensures
 
   entries_are :
-      with_marker_if d.both.result (behind i told)
-      (under_way s.args.topology turn.before.before.turned.result seen i)
+      with_marker_if d.both-holds.result (behind i told)
+      (under_way s.args.topology turn.turned-turned.result seen i)
       ≡ channel_by s.args.topology told (history s.args.topology s.args.past) i
   entries_are =
-      channel_is s.args.topology told i _ _ seen holds turn.before.before.turned.ensures
-      s.pre.histories.seen
+      channel_is s.args.topology told i _ _ seen holds turn.turned-turned.ensures
+      s.requires.histories.seen
 
-channel-requires : tie.Need-channel-requires invariant-loop decreases-loop
+channel-requires : tie.Need-channel-held-requires invariant-loop decreases-loop
 channel-requires d κs =
-    let planned = (turn d).loop-test.true in
+    let planned = (turn d).loop-c-test.true in
     let ends = ends_fit (s d).args.topology (s d).requires.ready.good (i d) planned in
     record {
       from = ends.0;
@@ -96,29 +98,28 @@ channel-requires d κs =
       fits = rw (entries_are d) ((s d).requires.ready.small.room (i d) planned);
     }
 
-few : tie.Need-overflow-cast-entries invariant-loop decreases-loop
+few : tie.Need-overflow_cast-entries invariant-loop decreases-loop
 few c =
     let round = turn c.before.before.before.before in
-    let small = (start round).pre.ready.small in
-    omega (arith, c.logged.ensures, small.channels round.before.loop.c round.loop-test.taken)
+    let small = (start round).requires.ready.small in
+    omega (arith, c.logged.ensures, small.channels round.loop-c.c round.loop-c-test.true)
 
-loop-again : tie.Need-loop-preserved invariant-loop decreases-loop
+loop-again : tie.Need-loop-c-preserved invariant-loop decreases-loop
 loop-again c =
-    let filled = c.before.before.before in
-    let d = filled.before in
-    let l = (turn d).before.loop in
+    let d = c.before.before.before.before in
+    let l = (turn d).loop-c in
     let here = inside (turn d) in (
-      omega (arith, (turn d).loop-test.true),
-      one_holding filled.channel.result l.inv.1 here (filled.channel.ensures ∙ entries_are d),
-      one_filled l.inv.2 here d.before.before.closed.ensures,
-      one_filled l.inv.3 here d.before.marker-sent.ensures,
-      one_filled l.inv.4 here c.logged.ensures,
+      omega (arith, (turn d).loop-c-test.true),
+      one_holding c.channel-held.result l.invariant.1 here (c.channel-held.ensures ∙ entries_are d),
+      one_filled l.invariant.2 here d.closed-shut.ensures,
+      one_filled l.invariant.3 here d.marker_sent-marker_sent.ensures,
+      one_filled l.invariant.4 here c.logged.ensures,
     )
 
 returns : tie.Need-returns invariant-loop decreases-loop
 returns c =
-    let l = c.before.loop in
-    let e : l.c ≡ c.before.before.before.args.topology.channels = omega arith in
+    let l = c.loop-c in
+    let e : l.c ≡ c.args.topology.channels = omega arith in
     record {
       channels = rw e at l.invariant.1.seen;
       closed = rw e at l.invariant.2.seen;
@@ -129,12 +130,11 @@ returns c =
 pub channels_spec : {M : Type 1} → statement M
 channels_spec =
     tie.close
-    (tie.spec invariant-loop decreases-loop (λ c κs. c.requires.ready.kept) loop-holds (λ c κs. (start c).requires.ready.kept)
-    (λ c κs. (start c.before).pre.ready.kept) (λ c κs. search rules) channel-requires (λ c. search rules)
+    (tie.spec invariant-loop decreases-loop (λ c κs. c.requires.ready.kept) loop-holds
+    (λ c κs. (start c).requires.ready.kept) (λ c κs. (start c.before).requires.ready.kept) (λ c κs. search rules)
+    channel-requires (λ c. search rules) (λ c. search rules) (λ c. omega (arith, inside (turn c.before.before.before)))
     (λ c. search rules) (λ c. omega (arith, inside (turn c.before.before.before))) (λ c. search rules)
     (λ c. omega (arith, inside (turn c.before.before.before))) (λ c. search rules)
-    (λ c. omega (arith, inside (turn c.before.before.before))) (λ c. search rules)
-    (λ c. omega (arith, inside (turn c.before.before.before)))
-    (λ c κs. (s c.before.before.before).pre.ready.kept) few (λ c. search rules)
-    (λ c. omega (arith, inside (turn c.before.before.before.before)))
+    (λ c. omega (arith, inside (turn c.before.before.before))) (λ c κs. (s c.before.before.before).requires.ready.kept)
+    few (λ c. search rules) (λ c. omega (arith, inside (turn c.before.before.before.before)))
     (λ c. omega (arith, inside (turn c.before.before.before.before))) (λ c. omega arith) loop-again returns)

@@ -9,14 +9,13 @@ returns : tie.Need-returns
 unfolding view view_progress view_counts state_of state_from
 returns c =
     let channels = c.before.before.before.before.before.before.before.before.before.before in
-    let processes = channels.before in
-    let phase = processes.before.before in
-    let p = processes.processes.ensures in
-    let k = channels.channels.ensures in
+    let phase = channels.before.before.before in
+    let p = channels.processes-p.ensures in
+    let k = channels.channels-c.ensures in
     λ j.
     record {
-      topology = phase.before.before.args.topology;
-      round = record { line = phase.before.line.ensures j; phase = phase.phase.ensures j };
+      topology = phase.args.topology;
+      round = record { line = phase.line-line.ensures j; phase = phase.phase-phase.ensures j };
       word = p.words j;
       tag = p.tags j;
       channel = k.channels j;
@@ -27,7 +26,7 @@ returns c =
 pub of_spec : {M : Type 1} → statement M
 of_spec =
     tie.close
-    (tie.spec (λ c κs. c.requires.kept) (λ c. search rules) (λ c κs. c.before.requires.kept)
-    (λ c κs. let s = c.before.before in (s.requires.kept, s.requires.fit, s.requires.good))
-    (λ c κs. record { ready = c.before.before.before.requires; histories = c.feed.ensures })
-    (λ c κs. record { ready = c.before.before.before.before.requires; histories = c.before.feed.ensures }) returns)
+    (tie.spec (λ c κs. c.requires.kept) (λ c. search rules) (λ c κs. c.requires.kept)
+    (λ c κs. (c.requires.kept, c.requires.fit, c.requires.good))
+    (λ c κs. record { ready = c.requires; histories = c.feed-histories.ensures })
+    (λ c κs. record { ready = c.requires; histories = c.feed-histories.ensures }) returns)

@@ -32,8 +32,9 @@ module _ (T : Topology) (past : Past) (q : ℕ) where
   abbrev tag_at : Bool
   tag_at = turned_by (turned (past_of past)) marked_at
 
-abbrev invariant-loop : tie.invariant-loop
-invariant-loop topology past histories n tag words₀ tags₀ logical₀ saved₀ messages₀ p₀ words tags logical saved messages p =
+abbrev invariant-loop : tie.invariant-loop-p
+invariant-loop topology past histories n tag words₀ tags₀ logical₀ saved₀ messages₀ p₀
+    words tags logical saved messages p =
     (p ≤ n)
     × Filled words 16 p (word_at topology past) 0
     × Filled tags 16 p (tag_at topology past) false
@@ -41,14 +42,15 @@ invariant-loop topology past histories n tag words₀ tags₀ logical₀ saved�
     × Filled saved 16 p (λ q. saved_in topology q (past_of past)) false
     × Filled messages 16 p (λ q. messages_logged topology q (past_of past)) 0
 
-abbrev decreases-loop : tie.decreases-loop
-decreases-loop topology past histories n tag words₀ tags₀ logical₀ saved₀ messages₀ p₀ words tags logical saved messages p =
+abbrev decreases-loop : tie.decreases-loop-p
+decreases-loop topology past histories n tag words₀ tags₀ logical₀ saved₀ messages₀ p₀
+    words tags logical saved messages p =
     n - p
 
-loop-holds : tie.Need-loop-init invariant-loop decreases-loop
+loop-holds : tie.Need-loop-p-init invariant-loop decreases-loop
 loop-holds c =
-    let T = c.before.args.topology in
-    let past = c.before.args.past in (
+    let T = c.args.topology in
+    let past = c.args.past in (
       omega arith,
       none_filled 16 (word_at T past) 0,
       none_filled 16 (tag_at T past) false,
@@ -58,48 +60,46 @@ loop-holds c =
     )
 
 -- a process of the topology is one of 16
-module _ (c : tie.In-loop invariant-loop decreases-loop) where
+module _ (c : tie.In-loop-p invariant-loop decreases-loop) where
   abbrev start : tie.Start invariant-loop decreases-loop
   start = c.before.before.before
 
-  inside : c.before.loop.p < 16
+  inside : c.loop-p.p < 16
   inside =
-      omega (arith, (accepted_sizes start.args.topology start.pre.ready.good).processes, c.loop-test.true)
+      omega (arith, (accepted_sizes start.args.topology start.requires.ready.good).processes, c.loop-p-test.true)
 
-few : tie.Need-overflow-cast-messages invariant-loop decreases-loop
+few : tie.Need-overflow_cast-messages invariant-loop decreases-loop
 few c =
     let turn = c.before.before.before.before in
     let small = (start turn).requires.ready.small in
-    omega (arith, c.messages.ensures, small.messages turn.before.loop.p turn.loop-test.true)
+    omega (arith, c.messages.ensures, small.messages turn.loop-p.p turn.loop-p-test.true)
 
-loop-again : tie.Need-loop-preserved invariant-loop decreases-loop
+loop-again : tie.Need-loop-p-preserved invariant-loop decreases-loop
 unfolding history_seen
 loop-again c =
-    let word = c.before.before in
-    let mark = word.before in
-    let turn = mark.before in
-    let l = turn.before.loop in
+    let turn = c.before.before.before.before in
+    let l = turn.loop-p in
     let s = start turn in
     let p = l.p in
-    let seen = s.pre.histories.seen in
-    let has : mark.marked.result ≡ marked_at s.args.topology s.args.past p =
-    mark.marked.ensures ∙ has_mark_in_lem (get_or s.args.histories.marks p 65535)
+    let seen = s.requires.histories.seen in
+    let has : c.marked-marked.result ≡ marked_at s.args.topology s.args.past p =
+    c.marked-marked.ensures ∙ has_mark_in_lem (get_or s.args.histories.marks p 65535)
     ∙ ap (λ (h : History). has_mark (h.mark p)) seen in (
-      omega (arith, turn.loop-test.true),
+      omega (arith, turn.loop-p-test.true),
       one_filled l.invariant.1 (inside turn)
-          (word.word.ensures ∙ ap (λ (h : History). replay 0 (receipts_of (h.events p))) seen),
+          (c.word.ensures ∙ ap (λ (h : History). replay 0 (receipts_of (h.events p))) seen),
       one_filled l.invariant.2 (inside turn)
-          (tag_is turn.before.before.turned.result mark.marked.result
-          ∙ ap₂ turned_by turn.before.before.turned.ensures has),
+          (tag_is turn.turned-turned.result c.marked-marked.result
+          ∙ ap₂ turned_by turn.turned-turned.ensures has),
       one_filled l.invariant.3 (inside turn) has,
-      one_filled l.invariant.4 (inside turn) c.before.saved.ensures,
+      one_filled l.invariant.4 (inside turn) c.saved.ensures,
       one_filled l.invariant.5 (inside turn) c.messages.ensures,
     )
 
 returns : tie.Need-returns invariant-loop decreases-loop
 returns c =
-    let l = c.before.loop in
-    let e : l.p ≡ c.before.before.before.args.topology.processes = omega arith in
+    let l = c.loop-p in
+    let e : l.p ≡ c.args.topology.processes = omega arith in
     record {
       words = rw e at l.invariant.1.seen;
       tags = rw e at l.invariant.2.seen;
@@ -112,11 +112,11 @@ pub processes_spec : {M : Type 1} → statement M
 processes_spec =
     tie.close
     (tie.spec invariant-loop decreases-loop (λ c κs. c.requires.ready.kept) loop-holds (λ c κs. inside c)
-    (λ c κs. (inside c.before, (start c.before).pre.histories.whole)) (λ c. search rules) (λ c. search rules)
+    (λ c κs. (inside c.before, (start c.before).requires.histories.whole)) (λ c. search rules) (λ c. search rules)
     (λ c. omega (arith, inside c.before.before)) (λ c. search rules)
     (λ c. omega (arith, inside c.before.before)) (λ c. search rules)
-    (λ c. omega (arith, inside c.before.before)) (λ c κs. (start c.before.before).pre.ready.kept)
+    (λ c. omega (arith, inside c.before.before)) (λ c κs. (start c.before.before).requires.ready.kept)
     (λ c. search rules) (λ c. omega (arith, inside c.before.before.before))
-    (λ c κs. (start c.before.before.before).pre.ready.kept) few (λ c. search rules)
+    (λ c κs. (start c.before.before.before).requires.ready.kept) few (λ c. search rules)
     (λ c. omega (arith, inside c.before.before.before.before))
     (λ c. omega (arith, inside c.before.before.before.before)) (λ c. omega arith) loop-again returns)

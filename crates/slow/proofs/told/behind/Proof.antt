@@ -8,24 +8,23 @@ use Rattle.slow.proofs.Pasts.{NumberBy, none_counted, still_few, counted_on, all
 use Rattle.slow.proofs.told.behind.Statement.{statement}
 use Rattle.slow.proofs.told.behind.Tie as tie
 
-abbrev invariant-loop : tie.invariant-loop
+abbrev invariant-loop : tie.invariant-loop-i
 invariant-loop channel past n₀ i₀ n i = NumberBy (on_channel 6 channel) (on_channel 1 channel) past n i
 
-abbrev decreases-loop : tie.decreases-loop
+abbrev decreases-loop : tie.decreases-loop-i
 decreases-loop channel past n₀ i₀ n i = past.count - i
 
-number-since-requires : tie.Need-number-since-requires invariant-loop decreases-loop
+number-since-requires : tie.Need-number_since-n-requires invariant-loop decreases-loop
 number-since-requires c κs =
-    let turn = c.before.before.before in
-    still_few turn.before.loop.invariant turn.loop-test.true turn.before.before.requires
+    still_few c.loop-i.invariant c.loop-i-test.true c.requires
 
-loop-again : tie.Need-loop-preserved invariant-loop decreases-loop
+loop-again : tie.Need-loop-i-preserved invariant-loop decreases-loop
 loop-again c =
-    let turn = c.before.before.before.before in counted_on turn.before.loop.invariant turn.loop-test.true cc
+    counted_on c.loop-i.invariant c.loop-i-test.true cc
 
 returns : tie.Need-returns invariant-loop decreases-loop
 unfolding behind
-returns c = all_counted c.before.loop.invariant c.loop-test.false
+returns c = all_counted c.loop-i.invariant c.loop-i-test.false
 
 pub behind_spec : {M : Type 1} → statement M
 behind_spec =

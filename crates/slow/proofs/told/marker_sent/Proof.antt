@@ -9,19 +9,19 @@ use Rattle.slow.proofs.Pasts.{FoundBy, none_found, found_on, all_found}
 use Rattle.slow.proofs.told.marker_sent.Statement.{statement}
 use Rattle.slow.proofs.told.marker_sent.Tie as tie
 
-abbrev invariant-loop : tie.invariant-loop
+abbrev invariant-loop : tie.invariant-loop-i
 invariant-loop channel past found₀ i₀ found i = FoundBy starts_or_ends (on_channel 6 channel) past found i
 
-abbrev decreases-loop : tie.decreases-loop
+abbrev decreases-loop : tie.decreases-loop-i
 decreases-loop channel past found₀ i₀ found i = past.count - i
 
-loop-again : tie.Need-loop-preserved invariant-loop decreases-loop
+loop-again : tie.Need-loop-i-preserved invariant-loop decreases-loop
 loop-again c =
-    let turn = c.before.before.before.before in found_on turn.before.loop.invariant turn.loop-test.true cc
+    found_on c.loop-i.invariant c.loop-i-test.true cc
 
 returns : tie.Need-returns invariant-loop decreases-loop
 unfolding marker_sent this_round
-returns c = all_found c.before.loop.invariant c.loop-test.false
+returns c = all_found c.loop-i.invariant c.loop-i-test.false
 
 pub marker_sent_spec : {M : Type 1} → statement M
 marker_sent_spec =

@@ -8,26 +8,24 @@ use Rattle.slow.proofs.Pasts.{NumberBy, none_counted, still_few, counted_on, all
 use Rattle.slow.proofs.told.messages.Statement.{statement}
 use Rattle.slow.proofs.told.messages.Tie as tie
 
-abbrev invariant-loop : tie.invariant-loop
+abbrev invariant-loop : tie.invariant-loop-i
 invariant-loop topology process past n₀ i₀ n i = NumberBy clears (logs_message topology process) past n i
 
-abbrev decreases-loop : tie.decreases-loop
+abbrev decreases-loop : tie.decreases-loop-i
 decreases-loop topology process past n₀ i₀ n i = past.count - i
 
-number-since-requires : tie.Need-number-since-requires invariant-loop decreases-loop
+number-since-requires : tie.Need-number_since-n-requires invariant-loop decreases-loop
 number-since-requires c κs =
-    let turn = c.before.before.before.before.before.before in
-    still_few turn.before.loop.invariant turn.loop-test.true turn.before.before.requires
+    still_few c.loop-i.invariant c.loop-i-test.true c.requires
 
-loop-again : tie.Need-loop-preserved invariant-loop decreases-loop
+loop-again : tie.Need-loop-i-preserved invariant-loop decreases-loop
 unfolding receiver
 loop-again c =
-    let turn = c.before.before.before.before.before.before.before in
-    counted_on turn.before.loop.invariant turn.loop-test.true cc
+    counted_on c.loop-i.invariant c.loop-i-test.true cc
 
 returns : tie.Need-returns invariant-loop decreases-loop
 unfolding messages_logged since_clear
-returns c = all_counted c.before.loop.invariant c.loop-test.false
+returns c = all_counted c.loop-i.invariant c.loop-i-test.false
 
 pub messages_spec : {M : Type 1} → statement M
 messages_spec =

@@ -9,21 +9,20 @@ use Rattle.slow.proofs.Pasts.{FoundBy, none_found, found_on, all_found}
 use Rattle.slow.proofs.told.saved.Statement.{statement}
 use Rattle.slow.proofs.told.saved.Tie as tie
 
-abbrev invariant-loop : tie.invariant-loop
+abbrev invariant-loop : tie.invariant-loop-i
 invariant-loop topology process past found₀ i₀ found i = FoundBy starts_or_ends (copies process) past found i
 
-abbrev decreases-loop : tie.decreases-loop
+abbrev decreases-loop : tie.decreases-loop-i
 decreases-loop topology process past found₀ i₀ found i = past.count - i
 
-loop-again : tie.Need-loop-preserved invariant-loop decreases-loop
+loop-again : tie.Need-loop-i-preserved invariant-loop decreases-loop
 loop-again c =
-    let turn = c.before.before.before.before in found_on turn.before.loop.invariant turn.loop-test.true cc
+    found_on c.loop-i.invariant c.loop-i-test.true cc
 
 returns : tie.Need-returns invariant-loop decreases-loop
 unfolding saved_in this_round is_late
 returns c =
-    let left = c.before.before in
-    cc (all_found left.before.loop.invariant left.loop-test.false)
+    cc (all_found c.loop-i.invariant c.loop-i-test.false)
 
 pub saved_spec : {M : Type 1} → statement M
 saved_spec =
