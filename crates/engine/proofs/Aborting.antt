@@ -1,5 +1,6 @@
 -- How the loop of `plain_channels` gets, channel by channel, to what the definition has.
-use Rattle.std.proofs.Common.{◌≡◌, ℕ, ◌+◌, false, cond, ltb, List, sym, refl, ap, ◌∙◌, arith, ltb-false, ltb-true, le-ltb, lt-ltb}
+use Rattle.std.proofs.Common.{◌≡◌, ℕ, ◌+◌, false, cond, ltb, List, sym, refl, ap, ◌∙◌, arith, ltb-false, ltb-true}
+use Rattle.std.proofs.Common.{le-ltb, lt-ltb}
 use mathlib.Core.Path.{fun_ext}
 use Rattle.model.specs.declared.Entry.{Entry}
 use Rattle.model.specs.Notation.{upd}

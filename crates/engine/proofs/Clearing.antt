@@ -1,5 +1,6 @@
 -- The writes of begin and of initialize: runs of cells, one in each record of a process and one in each of a channel.
-use Rattle.std.proofs.Common.{◌≡◌, ℕ, zero, suc, ◌+◌, ◌*◌, ◌≤◌, List, [], ◌∷◌, length, refl, ap, ◌∙◌, ap₂, arith, length-append}
+use Rattle.std.proofs.Common.{◌≡◌, ℕ, zero, suc, ◌+◌, ◌*◌, ◌≤◌, List, [], ◌∷◌, length, refl, ap, ◌∙◌, ap₂, arith}
+use Rattle.std.proofs.Common.{length-append}
 use Rattle.model.specs.declared.Topology.{Topology}
 use Rattle.model.specs.Notation.{tabulate, concat_below}
 use Rattle.model.specs.Layout.{present, line_cell, process_cells, channel_cells, physical_cell}
@@ -52,7 +53,8 @@ unfolding initialize_writes commit_writes
 initialize_length T = simp (length-append, processes_length, tabulate_length)
 
 -- a budget that lasts for them: all of them are made, those for the channels by a run of zeros
-module _ (T : Topology) {st st₁ st₂ st₃ : List ℕ} {b left rest last first : ℕ} (at : first ≡ count_cell 0 (channel_log 0))
+module _ (T : Topology) {st st₁ st₂ st₃ : List ℕ} {b left rest last first : ℕ}
+    (at : first ≡ count_cell 0 (channel_log 0))
     (processes : Spent st b (concat_below T.processes clear_process) st₁ left)
     (channels : Spent st₁ left (tabulate T.channels (λ i. zero_write (first + channel_cells * i))) st₂ rest)
     (line : Spent st₂ rest (zero_write line_cell ∷ []) st₃ last) where

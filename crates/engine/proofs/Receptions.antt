@@ -1,6 +1,7 @@
 -- How a receive's parts make up what the definition has: whether a log needed is full, where in the store it has its
 -- place, the writes, and what becomes of flags and counts.
-use Rattle.std.proofs.Common.{◌≡◌, ℕ, ◌+◌, ◌*◌, ◌%◌, ◌^◌, ◌<◌, ◌≤◌, Bool, true, false, cond, not, ◌&&◌, ◌||◌, leb, List, ◌++◌, length, sym, refl, ap, ◌∙◌, subst, arith, leb-false}
+use Rattle.std.proofs.Common.{◌≡◌, ℕ, ◌+◌, ◌*◌, ◌%◌, ◌^◌, ◌<◌, ◌≤◌, Bool, true, false, cond, not, ◌&&◌, ◌||◌, leb, List}
+use Rattle.std.proofs.Common.{◌++◌, length, sym, refl, ap, ◌∙◌, subst, arith, leb-false}
 use mathlib.Core.Bool.{beq}
 use mir.Val.{bool_byte}
 use Rattle.model.specs.declared.Receipt.{Receipt}

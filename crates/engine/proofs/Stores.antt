@@ -1,5 +1,6 @@
 -- Laws of writes under a budget: lists of writes one after the other spend what is left, and a store keeps its length.
-use Rattle.std.proofs.Common.{◌≡◌, ℕ, zero, suc, ◌-◌, ◌<◌, ◌≤◌, List, [], ◌∷◌, ◌++◌, length, take, sym, refl, ap, ◌∙◌, arith, length-append, take_all}
+use Rattle.std.proofs.Common.{◌≡◌, ℕ, zero, suc, ◌-◌, ◌<◌, ◌≤◌, List, [], ◌∷◌, ◌++◌, length, take, sym, refl, ap}
+use Rattle.std.proofs.Common.{◌∙◌, arith, length-append, take_all}
 use native.Mathlib.Numerals.{unary_clauses}
 use lib.Seq.{take-nil}
 use Rattle.model.specs.Write.{Write, write, write_all}
@@ -25,7 +26,8 @@ one_spent st zero w l = absurd (omega arith)
 one_spent st (suc b) w l = record { store = ap (write_all (write st w)) (sym (take-nil b)); left = refl }
 
 module _ {st st' : List ℕ} {b b' : ℕ} {xs : List Write} (p : Spent st b xs st' b') where
-  pub spent_then : {st'' : List ℕ} {b'' : ℕ} {ys : List Write} → Spent st' b' ys st'' b'' → Spent st b (xs ++ ys) st'' b''
+  pub spent_then : {st'' : List ℕ} {b'' : ℕ} {ys : List Write} → Spent st' b' ys st'' b''
+      → Spent st b (xs ++ ys) st'' b''
   spent_then {st''} {b''} {ys} q =
       record {
         store = q.store ∙ rw (p.store, p.left) (sym (lasting_append st b xs ys));

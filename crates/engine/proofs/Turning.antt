@@ -1,6 +1,7 @@
 -- How a step's turn meets its promise, by what the model's checks and effect are for every state seen so at the spot;
 -- and the state with a turn written back.
-use Rattle.std.proofs.Common.{◌≡◌, ℕ, ◌+◌, ◌^◌, ◌<◌, ◌≤◌, Bool, true, false, cond, List, length, take, sym, refl, ap, ◌∙◌, subst, arith, le-ltb, lt-ltb}
+use Rattle.std.proofs.Common.{◌≡◌, ℕ, ◌+◌, ◌^◌, ◌<◌, ◌≤◌, Bool, true, false, cond, List, length, take, sym, refl, ap}
+use Rattle.std.proofs.Common.{◌∙◌, subst, arith, le-ltb, lt-ltb}
 use mathlib.Core.Option.{none, some}
 use borrow.Author.Tests.{eqb-false, not-true}
 use native.Mathlib.Nat.{min-eq_left, min-eq_right}

@@ -1,5 +1,6 @@
 -- How the state is seen at a spot, and the state with a turn written back: what `step` needs, once for the eight steps.
-use Rattle.std.proofs.Common.{◌≡◌, ℕ, ◌<◌, Bool, true, false, cond, List, length, get_or, set, sym, refl, ap, ◌∙◌, subst}
+use Rattle.std.proofs.Common.{◌≡◌, ℕ, ◌<◌, Bool, true, false, cond, List, length, get_or, set, sym, refl, ap, ◌∙◌}
+use Rattle.std.proofs.Common.{subst}
 use Rattle.model.specs.declared.State.{State}
 use Rattle.model.specs.declared.Flags.{Flags}
 use Rattle.model.specs.declared.Counts.{Counts}
@@ -10,7 +11,8 @@ use Rattle.model.specs.declared.Answer.{Answer}
 use Rattle.model.specs.Notation.{upd}
 use Rattle.model.specs.Topology.{process_limit, channel_limit, is_late}
 use Rattle.model.specs.Channel.{held, places_of}
-use Rattle.model.specs.State.{GlobalState, Progress, LogCounts, no_progress, no_counts, view_progress, view_counts, view}
+use Rattle.model.specs.State.{GlobalState, Progress, LogCounts, no_progress, no_counts, view_progress, view_counts}
+use Rattle.model.specs.State.{view}
 use Rattle.model.specs.Change.{with_channel, plain_channels}
 use Rattle.model.specs.Write.{Answered}
 use Rattle.model.specs.Step.{has_physical}

@@ -1,5 +1,6 @@
 -- A step on one spot: what it is about, when a state is seen so there, and what a state becomes by the turn.
-use Rattle.std.specs.Prelude.{◌≡◌, ℕ, ◌<◌, ◌≤◌, Bool, true, false, cond, not, ◌&&◌, ◌||◌, List, [], get_or, replicate, nat_lt, slice_index, slice_index_or, slice_set}
+use Rattle.std.specs.Prelude.{◌≡◌, ℕ, ◌<◌, ◌≤◌, Bool, true, false, cond, not, ◌&&◌, ◌||◌, List, [], get_or}
+use Rattle.std.specs.Prelude.{replicate, nat_lt, slice_index, slice_index_or, slice_set}
 use Rattle.model.specs.declared.Answer.{Answer}
 use Rattle.model.specs.declared.Channel.{Channel}
 use Rattle.model.specs.declared.Counts.{Counts}

@@ -87,7 +87,8 @@ module _ {xs : List ℕ} where
       record { within = omega arith; room = refl; filled = seen_replicate list_limit 0 ∙ filled_none _ 0 }
 
   module _ {places : List ℕ} {i : ℕ} (p : Filled xs places i) where
-    pub one_filled : {v : ℕ} → i < length xs → i < length places → v ≡ get_or xs i 0 → Filled xs (set places i v) (i + 1)
+    pub one_filled : {v : ℕ} → i < length xs → i < length places → v ≡ get_or xs i 0
+        → Filled xs (set places i v) (i + 1)
     one_filled l room e =
         record {
           within = omega arith;

@@ -49,7 +49,8 @@ module _ (source : BudgetSource) (bytes : List ℕ) where
       rw (budget, content) (same end).rest
 
   pub read_whole : {r : Record} {b : ℕ} {after : List ℕ} → requested (read_request source bytes) ≡ request.Read r b
-      → after ≡ after_request source bytes → read_request source bytes ≡ some (record { content = r; budget = b }, after)
+      → after ≡ after_request source bytes
+      → read_request source bytes ≡ some (record { content = r; budget = b }, after)
   read_whole e rest =
       let read = a_request bytes (read_request source bytes) e in
       read ∙ rw (rest, after_request_lem _ _ read)

@@ -11,7 +11,8 @@ use Rattle.model.specs.declared.Topology.{Topology}
 use Rattle.model.specs.Outcome.{refused}
 use Rattle.model.specs.Record.{AreBytes}
 use Rattle.model.specs.State.{GlobalState, view}
-use Rattle.model.specs.Program.{BudgetSource, Request, Readings, Served, Session, read_request, reading_then, read_all, serve}
+use Rattle.model.specs.Program.{BudgetSource, Request, Readings, Served, Session, read_request, reading_then, read_all}
+use Rattle.model.specs.Program.{serve}
 use Rattle.model.specs.Program.{line_then, broken_line, session, session_from}
 use Rattle.report.specs.Appends.{Appends}
 use Rattle.report.specs.TextBytes.{line_bytes}
@@ -43,7 +44,8 @@ module _ (source : BudgetSource) (T : Topology) (n : ℕ) (s : GlobalState) (sto
   more (b ∷ bytes) q after h e =
       let a = request_after source (b ∷ bytes) h q after e in
       let x : Served = serve T s store q.budget q.content in
-      let same = fuel source (length bytes) (length after) after (bytes_after a h) (omega (arith, fewer a)) (omega arith) in
+      let same =
+      fuel source (length bytes) (length after) after (bytes_after a h) (omega (arith, fewer a)) (omega arith) in
       rw (e, reading_then)
       (ap (λ (r : Readings). line_then n x (session T r.broken (n + 1) x.state x.store r.requests)) same)
 

@@ -14,14 +14,14 @@ returns : tie.Need-returns-then-not-sound
 returns c = rw (sym c.sound.ensures ∙ not-true _ c.if-not-sound.true-raw)
 
 returns-2 : tie.Need-returns-then-cells-lt-STORE_CELLS
-returns-2 c = rw (sounds c.before, lt-ltb _ _ c.if-cells-lt-STORE_CELLS.true)
+returns-2 c = rw (sounds c.before, lt-ltb c.args.cells _ c.if-cells-lt-STORE_CELLS.true)
 
 find-requires : tie.Need-find-requires
 find-requires c κs = (sizes_fit _ (sounds c.before.before)).channels
 
 returns-3 : tie.Need-returns
 returns-3 c =
-    rw (sounds c.before.before.before, le-ltb _ _ c.if-cells-lt-STORE_CELLS.false) c.find.ensures
+    rw (sounds c.before.before.before, le-ltb c.args.cells _ c.if-cells-lt-STORE_CELLS.false) c.find.ensures
 
 pub admit_spec : {M : Type 1} → statement M
 admit_spec = tie.close (tie.spec (λ c κs. search rules) returns returns-2 find-requires returns-3)

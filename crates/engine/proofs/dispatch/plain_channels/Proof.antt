@@ -79,8 +79,8 @@ turning c = c.before.before.before.before.before
 pub plain_channels_spec : {M : Type 1} → statement M
 plain_channels_spec =
     tie.close
-    (tie.spec invariant-loop decreases-loop loop-holds (λ c. omega (arith, below c)) (λ c. omega (arith, below c)) (λ c. below c)
-    (λ c. below c.before) (λ c κs. search rules) (λ c κs. search rules) (λ c κs. search rules)
+    (tie.spec invariant-loop decreases-loop loop-holds (λ c. omega (arith, below c)) (λ c. omega (arith, below c))
+    (λ c. below c) (λ c. below c.before) (λ c κs. search rules) (λ c κs. search rules) (λ c κs. search rules)
     (λ c. omega (arith, below (turning c))) (λ c. below (turning c)) (λ c κs. search rules)
     (λ c. below (turning c.before)) (λ c. omega (arith, below (turning c.before))) (λ c. omega arith) loop-again
     returns)

@@ -165,8 +165,8 @@ written_back j =
     ∙ put_tags (s k) (sizes k) (subject k) (inside k) (x k) _ (came t) (changed b) w.if-reset.true _
     w.plain_channels-state.ensures)
     (λ w. ap view w.state-is
-    ∙ put_plain (s k) (sizes k) (subject k) (inside k) (x k) _ (came t) (changed b) w.if-reset.false _ _ w.places.ensures
-    w.used.ensures)
+    ∙ put_plain (s k) (sizes k) (subject k) (inside k) (x k) _ (came t) (changed b) w.if-reset.false _ _
+    w.places.ensures w.used.ensures)
     j.if-reset.branch-raw
 
 accepted : tie.Need-returns

@@ -8,7 +8,8 @@ use Rattle.model.specs.Topology.{has_process}
 use Rattle.model.specs.Phase.{is_logical}
 use Rattle.model.specs.State.{GlobalState}
 use Rattle.model.specs.Change.{logical_checkpoint, with_tag, with_progress, with_logical}
-use Rattle.model.specs.Step.{may_checkpoint_logically, prior_checks, room_checks, log_checks, own_checks, effect, quietly}
+use Rattle.model.specs.Step.{may_checkpoint_logically, prior_checks, room_checks, log_checks, own_checks, effect}
+use Rattle.model.specs.Step.{quietly}
 use Rattle.engine.specs.declared.spot.Spot.{Spot}
 use Rattle.engine.specs.Spots.{Sees, put_back}
 use Rattle.engine.proofs.Views.{same_state}

@@ -1,6 +1,7 @@
 -- `engine::physical_checkpoint::physical_checkpoint` meets its contract: refused where the process may not have it now,
 -- else its word is written; after that of an early process the next one's turn or the logical phase comes.
-use Rattle.std.proofs.Common.{◌≡◌, ℕ, ◌+◌, ◌<◌, Bool, true, false, cond, not, ◌&&◌, take, sym, refl, ◌∙◌, arith, rules, ltb-true}
+use Rattle.std.proofs.Common.{◌≡◌, ℕ, ◌+◌, ◌<◌, Bool, true, false, cond, not, ◌&&◌, take, sym, refl, ◌∙◌, arith, rules}
+use Rattle.std.proofs.Common.{ltb-true}
 use mathlib.Core.Option.{none, some}
 use borrow.Author.Tests.{not-false}
 use Rattle.model.specs.declared.Phase.{Phase}
@@ -97,7 +98,8 @@ module _ (m : tie.After-may) where
 
 returns : tie.Need-returns-then-not-may
 returns c =
-    turns_refused _ _ _ _ _ (λ g v. checks _ g v ∙ rw (← (told c.before.before), c.if-not-may.true-raw)) c.refused.ensures
+    turns_refused _ _ _ _ _ (λ g v. checks _ g v ∙ rw (← (told c.before.before), c.if-not-may.true-raw))
+    c.refused.ensures
 
 -- it may have it
 module _ (e : tie.Else-not-may) where

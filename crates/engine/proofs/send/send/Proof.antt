@@ -1,5 +1,5 @@
 -- `engine::send::send` meets its contract, in each of its cases.
-use Rattle.std.proofs.Common.{◌≡◌, ℕ, Bool, false, cond, [], ◌∷◌, ◌++◌, sym, refl, ap, ◌∙◌, rules}
+use Rattle.std.proofs.Common.{◌≡◌, ℕ, Bool, true, false, cond, [], ◌∷◌, ◌++◌, sym, refl, ap, ◌∙◌, rules}
 use mathlib.Core.Option.{none, some}
 use Rattle.model.specs.declared.Entry.TheVariants.{Message}
 use Rattle.model.specs.declared.Step.TheVariants.{Send}
@@ -32,12 +32,12 @@ module _ (s : Spot) (b : ℕ) (g : GlobalState) (v : Sees g (Send s.channel b) s
 
 returns : tie.Need-returns-then-no_room_for_message
 returns c =
-    quiet_refused _ _ _ (λ g v. own _ _ g v (sym c.no_room_for_message.ensures ∙ c.if-no_room_for_message.true))
+    quiet_refused _ _ _ (λ g v. own _ _ g v {full = true} (search rules))
     c.refused.ensures
 
 -- there is room
 room : (c : tie.Else-no_room_for_message) → no_room_for_message (entries c.args.s.held) ≡ false
-room c = sym c.no_room_for_message.ensures ∙ c.if-no_room_for_message.false
+room c = search rules
 
 returns-2 : tie.Need-returns
 unfolding effect put_back set_entries with_channel

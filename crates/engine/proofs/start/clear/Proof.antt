@@ -26,7 +26,8 @@ put-requires c κs =
 
 returns : tie.Need-returns
 returns c =
-    let s = sized c.before.before.before.before.before.before.before.before.before.before.before.before.before.before.before in
+    let first = c.before.before.before.before.before.before.before.before in
+    let s = sized first.before.before.before.before.before.before.before in
     all_cleared c.args.topology c.channel_count_cell-first.ensures
     c.clear_processes-left.ensures c.zeros-rest.ensures c.put.ensures (omega arith)
 

@@ -11,7 +11,8 @@ use Rattle.engine.proofs.start.clear_processes.Statement.{statement}
 use Rattle.engine.proofs.start.clear_processes.Tie as tie
 
 abbrev invariant-loop : tie.invariant-loop-p
-invariant-loop store₀ budget n left₀ p₀ store left p = (p ≤ n) × Spent store₀ budget (concat_below p clear_process) store left
+invariant-loop store₀ budget n left₀ p₀ store left p =
+    (p ≤ n) × Spent store₀ budget (concat_below p clear_process) store left
 
 abbrev decreases-loop : tie.decreases-loop-p
 decreases-loop store₀ budget n left₀ p₀ store left p = n - p

@@ -48,5 +48,9 @@ pass_spec =
     tie.close
     (tie.spec invariant-loop decreases-loop (λ c. omega (arith, part_count c.requires.0))
     starts (λ c κs. search rules)
-    (λ c κs. (rw (same_failure c) (at-loop c).loop-to.invariant.failing, begins c, (at-loop c).loop-to.invariant.before))
+    (λ c κs. (
+      rw (same_failure c) (at-loop c).loop-to.invariant.failing,
+      begins c,
+      (at-loop c).loop-to.invariant.before,
+    ))
     (λ c. omega (arith, c.begins-from.ensures, (start c.before).requires.1)) loop-again returns)

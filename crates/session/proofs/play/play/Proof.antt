@@ -15,14 +15,16 @@ refused : tie.Need-returns-in-Refuse
 unfolding refusal_of
 refused c =
     let k = c.before.before.before.before.before in
-    let refusal = sym (plan_refusal_lem k.read-reading.result _ k.read-reading.ensures) ∙ ap refusal_of c.in-Refuse.is in
+    let refusal = sym (plan_refusal_lem k.read-reading.result _ k.read-reading.ensures)
+    ∙ ap refusal_of c.in-Refuse.is in
     plays_refused _ _ _ (bytes k).taken-bytes.ensures refusal refl c.plan_refused.ensures
 
 -- the plan passes, and its records follow
 abbrev reading : tie.After-rest-records → tie.After-read-reading
 reading r = r.before.before.before
 
-passes : (r : tie.After-rest-records) → Passes (bytes (reading r)).taken-bytes.result.now (reading r).read-reading.result.topology
+passes : (r : tie.After-rest-records)
+    → Passes (bytes (reading r)).taken-bytes.result.now (reading r).read-reading.result.topology
 unfolding refusal_of
 passes r =
     let k = reading r in
