@@ -73,7 +73,8 @@ module _ (list : CallList) (xs : List ℕ) (h : (i : ℕ) → i < length xs → 
       let end : ℕ = length xs - 1 in
       let last : ℕ = get_or xs end 0 in
       ap₂ (λ (a b : List ℕ). a ++ b)
-      (concat_cong end (λ i. line_of (call_at list) i (get_or (padded said) i 0)) (λ i. line_of call i (get_or said i 0))
+      (concat_cong end (λ i. line_of (call_at list) i (get_or (padded said) i 0))
+      (λ i. line_of call i (get_or said i 0))
       (λ i l. ap₂ (λ (x : Record) (room : ℕ). kept_line x (get_or xs i 0) room) (same_call i (omega arith))
       (padded_at said i)))
       (ap (λ (x : Record). last_kept x last n) (same_call end (omega arith)))
@@ -117,7 +118,8 @@ answered bytes passes T plan x read whole_list s e =
 -- one line alone
 module _ (bytes : List ℕ) {before after : List ℕ} {r : ℕ} where
   pub answers_plan : {n : ℕ} → plan_refusal bytes ≡ some n
-      → Appends plan_refused_bytes before 0 (plan_refused_text n) after r → PrintsAnswer (reduction bytes) before after r
+      → Appends plan_refused_bytes before 0 (plan_refused_text n) after r
+      → PrintsAnswer (reduction bytes) before after r
   unfolding reduction plan_answer
   answers_plan e t = rw e (plan_line t)
 

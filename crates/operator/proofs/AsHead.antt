@@ -35,9 +35,11 @@ head_refused : (bytes : List ℕ) {n : ℕ} → plan_refusal bytes ≡ some n
 unfolding played_of
 head_refused bytes e = ap (λ (o : Option ℕ). output_by o bytes) e
 
-module _ (bytes : List ℕ) (whole : take input_bytes bytes ≡ bytes) (few : length (calls_in (records bytes)) ≤ list_limit)
+module _ (bytes : List ℕ) (whole : take input_bytes bytes ≡ bytes)
+    (few : length (calls_in (records bytes)) ≤ list_limit)
   where
-    by_plan : (o : Option ℕ) → plan_refusal bytes ≡ o → console_text (replay_answer o bytes) [] ≡ output_text (head bytes)
+    by_plan : (o : Option ℕ) → plan_refusal bytes ≡ o
+        → console_text (replay_answer o bytes) [] ≡ output_text (head bytes)
     unfolding replay_answer output_answer answer_text output_text
     by_plan (some n) e = rw (head_takes bytes whole ∙ head_refused bytes e)
     by_plan none e = rw (passes bytes (calls_in (records bytes)) e few)

@@ -24,7 +24,8 @@ module _ (F G : Form) (bytes target : List ℕ) where
   ends_plan e = rw e
 
   -- past the plan
-  module _ (passes : plan_refusal bytes ≡ none) {rest : List ℕ} (after-plan : rest ≡ drop (plan_length bytes) bytes) where
+  module _ (passes : plan_refusal bytes ≡ none) {rest : List ℕ}
+      (after-plan : rest ≡ drop (plan_length bytes) bytes) where
     pub ends_broken : are_cells rest ≡ false → refused 7 ≡ carrying F G bytes target
     unfolding carrying source_answer cells_answer
     ends_broken e = rw (passes, ← after-plan, e)

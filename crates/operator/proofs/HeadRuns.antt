@@ -52,7 +52,8 @@ full_calls zero bytes = refl
 full_calls (suc fuel) [] = refl
 full_calls (suc fuel) (b ∷ bytes) = go (read_record (b ∷ bytes)) refl (full_calls fuel)
   where
-    go : (x : Reading Record) → read_record (b ∷ bytes) ≡ x → ((rest : List ℕ) → Full (read_all full fuel rest).requests)
+    go : (x : Reading Record) → read_record (b ∷ bytes) ≡ x
+        → ((rest : List ℕ) → Full (read_all full fuel rest).requests)
         → Full (read_all full (suc fuel) (b ∷ bytes)).requests
     go none e more = rw (no_request (b ∷ bytes) e)
     go (some (r, after)) e more = rw (a_request (b ∷ bytes) r after e, more after)

@@ -85,7 +85,8 @@ module _ (T : Topology) (bytes : List ℕ) {x : ListRead} (read : ReadsList byte
 -- what is answered: the plan is refused,
 module _ (bytes : List ℕ) {before after : List ℕ} {q : ℕ} where
   pub replays_plan : {n : ℕ} → plan_refusal bytes ≡ some n
-      → Appends plan_refused_bytes before 0 (plan_refused_text n) after q → PrintsAnswer (replaying bytes) before after q
+      → Appends plan_refused_bytes before 0 (plan_refused_text n) after q
+      → PrintsAnswer (replaying bytes) before after q
   unfolding replaying replay_answer
   replays_plan e t = rw e (plan_line t)
 

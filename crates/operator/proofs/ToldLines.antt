@@ -38,7 +38,12 @@ unfolding told_text
 told_more n [] t = let e : n + 0 ≡ n = omega arith in rw e (append-nil (told_line n t))
 told_more n (u ∷ ts) t =
     let e : (n + 1) + length ts ≡ n + suc (length ts) = omega arith in
-    rw (told_more (n + 1) ts t, e, append_assoc (told_line n u) (told_text (n + 1) ts) (told_line (n + suc (length ts)) t))
+    rw (
+      told_more (n + 1) ts t,
+      e,
+      append_assoc (told_line n u) (told_text (n + 1) ts)
+          (told_line (n + suc (length ts)) t),
+    )
 
 told_below : (k : ℕ) (f : ℕ → Told) → told_text 1 (tabulate k f) ≡ concat_below k (λ i. told_line (i + 1) (f i))
 unfolding told_text tabulate concat_below

@@ -5,11 +5,11 @@ use Rattle.operator.proofs.carry.carried.Tie as tie
 
 upgrades : tie.Need-returns-in-Upgrade
 upgrades c =
-    rw c.in-Upgrade.is c.upgrade.ensures
+    rw c.in-Upgrade.is (search rules)
 
 downgrades : tie.Need-returns-in-Downgrade
 downgrades c =
-    rw c.in-Downgrade.is c.downgrade.ensures
+    rw c.in-Downgrade.is (search rules)
 
 pub carried_spec : {M : Type 1} → statement M
 carried_spec =

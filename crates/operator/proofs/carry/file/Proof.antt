@@ -1,55 +1,48 @@
 -- `carry::file` meets its contract: the line of a refusal, or `done` and the target's cells.
 use borrow.Author.Rules.{rules}
 use native.Mathlib.Omega.{arith}
-use Prim.Native.Nat.{ℕ}
+use Prim.Native.Nat.{ℕ, ◌*◌}
+use mathlib.Core.Path.{◌≡◌}
 use mathlib.Core.List.{List}
+use Rattle.model.specs.Form as form
+use Rattle.model.specs.Layout.{store_cells}
 use Rattle.report.specs.Appends.{Appends}
 use Rattle.report.proofs.Appending.{at_most}
-use Rattle.operator.specs.declared.Question.TheVariants.{Carry}
-use Rattle.operator.specs.Carrying.{target_form, ending_in}
-use Rattle.operator.specs.File.{file_text, file_to, file_bytes}
+use Rattle.operator.specs.declared.carry.Way.{Way}
+use Rattle.operator.specs.Carrying.{target_form}
+use Rattle.operator.specs.File.{cells_bytes}
 use Rattle.operator.proofs.Files.{cells_few, ends_filed, all_cells}
 use Rattle.operator.proofs.Lines.{plan_told, refusal_told, target_told}
 use Rattle.operator.proofs.carry.file.Statement.{statement}
 use Rattle.operator.proofs.carry.file.Tie as tie
 
 -- what is printed of the ending
-module _ (t : tie.After-tell-next) where
-  abbrev call : tie.After-carry-ending
-  call = t.before.before.before
-
-  abbrev start : tie.Start
-  start = call.before.before.before.before
-
-  files : {before after : List ℕ} {r : ℕ}
-      → Appends file_bytes before 0
-      (file_text (target_form start.args.way) (ending_in call.carry-ending.result call.carry-ending.new.target)) after r
-      → Appends file_bytes before 0 (file_to (Carry start.args.way) start.args.bytes.now) after r
-  files x = ends_filed _ _ _ call.carry-ending.result call.carry-ending.ensures x
-
 plan : tie.Need-returns-in-PlanRefused
 plan c =
-    let t = c.before.before.before in
-    files t (at_most (plan_told _ _ t.tell-next.ensures c.in-PlanRefused.is) (omega arith))
+    ends_filed _ _ _ _ c.carry-ending.ensures
+    (at_most (plan_told _ _ c.tell-next.ensures c.in-PlanRefused.is) (omega arith))
 
 refused : tie.Need-returns-in-Refused
 refused c =
-    let t = c.before.before.before in
-    files t (at_most (refusal_told _ _ t.tell-next.ensures c.in-Refused.is) (omega arith))
+    ends_filed _ _ _ _ c.carry-ending.ensures
+    (at_most (refusal_told _ _ c.tell-next.ensures c.in-Refused.is) (omega arith))
+
+-- the cells, as many as were asked for
+cells_told : (w : Way) (last b a : List ℕ) (at count r : ℕ) → count ≡ form.store_cells (target_form w)
+    → Appends (count * 4) b at (cells_bytes count last) a r
+    → Appends (store_cells * 4) b at (cells_bytes (form.store_cells (target_form w)) last) a r
+cells_told w last b a at count r = all_cells w last
 
 done : tie.Need-returns-in-Done
 done c =
-    let t = c.before.before.before.before.before.before.before.before.before in
-    files t
-    (target_told _ _ t.tell-next.ensures c.in-Done.is
-    (all_cells (start t).args.way _ c.target_cells.ensures c.write.ensures))
+    ends_filed _ _ _ _ c.carry-ending.ensures
+    (target_told _ _ c.tell-next.ensures {most = store_cells * 4} c.in-Done.is
+    (search (rules, cells_told c.args.way)))
 
 -- the target has as many cells as are written
 within : tie.Need-write-requires
 within c κs =
-    let t = c.before.before.before.before.before.before in
-    omega
-    (arith, c.target_cells.ensures, cells_few (start t).args.way, (call t).carry-ending.auto.target)
+    omega (arith, c.target_cells.ensures, cells_few c.args.way, c.carry-ending.auto.target)
 
 pub file_spec : {M : Type 1} → statement M
 file_spec =

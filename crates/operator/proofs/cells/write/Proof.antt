@@ -13,7 +13,8 @@ use Rattle.operator.proofs.cells.write.Statement.{statement}
 use Rattle.operator.proofs.cells.write.Tie as tie
 
 abbrev invariant-loop : tie.invariant-loop-i
-invariant-loop cells count out₀ at next₀ i₀ out next i = Appended 4 count (λ i. body_bytes (cell cells i)) out₀ at i out next
+invariant-loop cells count out₀ at next₀ i₀ out next i =
+    Appended 4 count (λ i. body_bytes (cell cells i)) out₀ at i out next
 
 abbrev decreases-loop : tie.decreases-loop-i
 decreases-loop cells count out₀ at next₀ i₀ out next i = count - i

@@ -51,7 +51,8 @@ ends c = list_ends c.loop-left.invariant c.loop-left-test.false
 pub read_spec : {M : Type 1} → statement M
 read_spec =
     tie.close
-    (tie.spec invariant-loop decreases-loop loop-holds (λ c κs. search rules) (λ c. search rules) (λ c. search rules) breaks
+    (tie.spec invariant-loop decreases-loop loop-holds (λ c κs. search rules) (λ c. search rules) (λ c. search rules)
+    breaks
     (λ c κs. search rules)
     (λ c κs. omega (arith, (at-loop c).loop-left.invariant.fewer, fewer (after c), (at-loop c).requires))
     (λ c. omega (arith, fewer (after c.before))) loop-again ends)

@@ -20,7 +20,8 @@ module _ (q : tie.After-is_send) where
 sent : tie.Need-returns-then-is_send
 sent c =
     let call = c.call_bytes-written.ensures in
-    rw (sym (told c.before.before.before.before.before.before) ∙ c.if-is_send.true) (line_printed _ call _ _ _ c.sent_line.ensures)
+    rw (sym (told c.before.before.before.before.before.before) ∙ c.if-is_send.true)
+    (line_printed _ call _ _ _ c.sent_line.ensures)
 
 other : tie.Need-returns
 other c =

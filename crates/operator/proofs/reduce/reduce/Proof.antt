@@ -23,7 +23,8 @@ use Rattle.operator.proofs.reduce.reduce.Tie as tie
 plan : tie.Need-returns-in-Refuse
 unfolding refusal_of
 plan c =
-    let refusal = sym (plan_refusal_lem c.read-reading.result _ c.read-reading.ensures) ∙ ap refusal_of c.in-Refuse.is in
+    let refusal = sym (plan_refusal_lem c.read-reading.result _ c.read-reading.ensures)
+    ∙ ap refusal_of c.in-Refuse.is in
     answers_plan _ refusal c.plan_refused.ensures
 
 -- the plan passes, and its records follow
@@ -49,7 +50,8 @@ module _ (l : tie.After-read-read) where
   rest = l.before
 
   list_read : ReadsList (records (start rest).args.bytes.now) l.read-read.result
-  list_read = subst (λ (bytes : List ℕ). ReadsList bytes l.read-read.result) rest.rest-records.ensures l.read-read.ensures
+  list_read = subst (λ (bytes : List ℕ). ReadsList bytes l.read-read.result) rest.rest-records.ensures
+      l.read-read.ensures
 
 broken : tie.Need-returns-then-read
 broken c =
@@ -83,7 +85,8 @@ module _ (d : tie.In-Failure) where
   abbrev failure : Failure
   failure = record { place = d.in-Failure.field-0; number = refusal_number d.in-Failure.r }
 
-  finds_it : sought (reading (rest (list reduced))).read-reading.result.topology (listed (list reduced).read-read.result.list)
+  finds_it : sought (reading (rest (list reduced))).read-reading.result.topology
+      (listed (list reduced).read-read.result.list)
       ≡ finds failure
   finds_it = sym reduced.reduce-reduced.ensures.answer ∙ ap sought_in d.in-Failure.is
 

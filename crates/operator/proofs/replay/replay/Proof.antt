@@ -17,7 +17,8 @@ use Rattle.operator.proofs.replay.replay.Tie as tie
 plan : tie.Need-returns-in-Refuse
 unfolding refusal_of
 plan c =
-    let refusal = sym (plan_refusal_lem c.read-reading.result _ c.read-reading.ensures) ∙ ap refusal_of c.in-Refuse.is in
+    let refusal = sym (plan_refusal_lem c.read-reading.result _ c.read-reading.ensures)
+    ∙ ap refusal_of c.in-Refuse.is in
     replays_plan _ refusal c.plan_refused.ensures
 
 -- the plan passes, and its records follow
