@@ -93,8 +93,8 @@ module _ (s : GlobalState) (st : List ℕ) (h : History) (inv : Inv s st h) wher
     -- a call that was not accepted did nothing
     unheard_told : (f : Fields) (o : Heard) (made : ℕ) → is_accepted o ≡ false
         → Told s.topology s (deed_by f o made ∷ past)
-    unfolding deed_by line_of number phase_of saved_in closed_in marker_sent this_round since any messages_logged channel_logged
-        since_clear turned
+    unfolding deed_by line_of number phase_of saved_in closed_in marker_sent this_round since any messages_logged
+        channel_logged since_clear turned
     unheard_told f o made e = rw e i
 
     pub answer_told : (x : Step) (budget : ℕ)
@@ -110,8 +110,8 @@ module _ (s : GlobalState) (st : List ℕ) (h : History) (inv : Inv s st h) wher
     pub recover_told : topology_refusal s.topology ≡ none
         → Told s.topology (recover s.topology st).state
         (deed_by (fields_of records.Recover) (heard (recover_said (recover s.topology st))) 0 ∷ past)
-    unfolding idle_state no_progress no_counts recover_said line_or deed_by fields_of line_of number phase_of saved_in closed_in
-        marker_sent this_round since any messages_logged channel_logged since_clear turned turned_by
+    unfolding idle_state no_progress no_counts recover_said line_or deed_by fields_of line_of number phase_of saved_in
+        closed_in marker_sent this_round since any messages_logged channel_logged since_clear turned turned_by
     recover_told good =
         rw ((recovers s st h good inv).accepted, recovered_state s st h good inv)
         (record {

@@ -21,7 +21,8 @@ use Rattle.model.specs.Change.{set_entries, with_round, with_word, with_channel,
 use Rattle.model.specs.Change.{with_logical, with_saved, with_sent, in_phase, end_round, plain_channels, enter_message}
 use Rattle.model.specs.Change.{close, logical_checkpoint, record_saved, record_sent}
 use Rattle.model.specs.Receive.{Reaction, receiver_at}
-use Rattle.model.specs.Step.{effect, quietly, react, reaction, receive, physical_at, physical_from, after_physical, answer}
+use Rattle.model.specs.Step.{effect, quietly, react, reaction, receive, physical_at, physical_from, after_physical}
+use Rattle.model.specs.Step.{answer}
 use Rattle.model.proofs.laws.Tests.{true_is_not_false, either}
 use Rattle.model.proofs.laws.Functions.{upd_other}
 use Rattle.model.proofs.laws.TopologyLaws.{Planned, receiver_planned}
@@ -86,7 +87,8 @@ module _ (s : GlobalState) (good : topology_refusal s.topology ≡ none) (b : Be
   -- the words after a receive
   received_words : (x : Reaction) (c p : ℕ) (e : Entry) (es : List Entry) → p < T.processes
       → Rests T.processes (enter_message c p e (set_entries c es (react x c p s))).word 0
-  unfolding enter_message set_entries react close logical_checkpoint with_word with_channel with_tag with_progress with_counts
+  unfolding enter_message set_entries react close logical_checkpoint with_word with_channel with_tag with_progress
+      with_counts
   received_words x c p e es l = entered e
     where
       Bare : GlobalState → Type 0
@@ -150,8 +152,9 @@ module _ (s : GlobalState) (good : topology_refusal s.topology ≡ none) (b : Be
           record { word = b.word; tag = b.tag; channel = b.channel; flags = no_flags T; counts = b.counts }
 
   effect_beyond : (x : Step) → Prior s x → Beyond T (effect s x).state
-  unfolding effect quietly after_physical end_round record_saved record_sent logical_checkpoint plain_channels has_channel
-      with_round with_progress with_tag with_channel with_counts with_logical with_saved with_sent set_entries
+  unfolding effect quietly after_physical end_round record_saved record_sent logical_checkpoint plain_channels
+      has_channel with_round with_progress with_tag with_channel with_counts with_logical with_saved with_sent
+      set_entries
   effect_beyond (Send c x) l =
       record {
         word = b.word;

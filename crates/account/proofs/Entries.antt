@@ -99,8 +99,8 @@ module _ (s : GlobalState) (st : List ℕ) (h : History) (inv : Inv s st h) (pas
   pub send_stands : (d b : ℕ) → d < T.channels
       → Stands T (effect s (Send d b)).state.channel (deed_in s (Send d b) ∷ past)
       (add_event (sender T d) (sent_on d b) h)
-  unfolding effect quietly set_entries with_channel deed_by fields_of number since any this_round marker_sent closed_in turned
-      behind channel_by
+  unfolding effect quietly set_entries with_channel deed_by fields_of number since any this_round marker_sent closed_in
+      turned behind channel_by
   send_stands d b ld =
       changed d (s.channel d ++ (x ∷ []))
       (ap (λ (l : List Entry). l ++ (x ∷ [])) (k d ld)
@@ -129,16 +129,16 @@ module _ (s : GlobalState) (st : List ℕ) (h : History) (inv : Inv s st h) (pas
   -- a logical checkpoint: nothing on the channels changes
   pub mark_stands : (p : ℕ) → p < T.processes → s.progress.logical p ≡ false
       → Stands T (effect s (LogicalCheckpoint p)).state.channel (deed_in s (LogicalCheckpoint p) ∷ past) (mark_now p h)
-  unfolding effect quietly logical_checkpoint with_tag with_progress deed_by fields_of number since any this_round marker_sent
-      closed_in turned behind channel_by
+  unfolding effect quietly logical_checkpoint with_tag with_progress deed_by fields_of number since any this_round
+      marker_sent closed_in turned behind channel_by
   mark_stands p lp free c lc =
       k c lc ∙ rw (under_way_marked T t h c p (no_mark (mark_of s st h inv past i p lp) free))
 
   -- a marker sent: its channel is not closed yet
   pub marker_stands : (d : ℕ) → MaySendMarker s d
       → Stands T (effect s (SendMarker d)).state.channel (deed_in s (SendMarker d) ∷ past) h
-  unfolding effect quietly record_sent set_entries with_channel with_progress deed_by fields_of number since any this_round
-      marker_sent closed_in turned behind channel_by
+  unfolding effect quietly record_sent set_entries with_channel with_progress deed_by fields_of number since any
+      this_round marker_sent closed_in turned behind channel_by
   marker_stands d may =
       changed d (s.channel d ++ (Marker ∷ []))
       (ap (λ (l : List Entry). l ++ (Marker ∷ [])) before

@@ -29,15 +29,18 @@ use Rattle.model.specs.Record.{fields_of}
 use Rattle.model.specs.Write.{clear_writes, physical_writes, commit_writes, cell_writes, append_writes, log_writes}
 use Rattle.model.specs.Write.{logs_writes}
 use Rattle.model.specs.Receive.{logs_only, log_if, in_message_log, reaction_to, receiver_at, any_full}
-use Rattle.model.specs.Step.{may_checkpoint_physically, may_checkpoint_logically, may_send_marker, has_physical, may_commit}
-use Rattle.model.specs.Step.{reaction, first_reaction, marker_on_closed, prior_checks, room_checks, log_checks, own_checks}
+use Rattle.model.specs.Step.{may_checkpoint_physically, may_checkpoint_logically, may_send_marker, has_physical}
+use Rattle.model.specs.Step.{may_commit}
+use Rattle.model.specs.Step.{reaction, first_reaction, marker_on_closed, prior_checks, room_checks, log_checks}
+use Rattle.model.specs.Step.{own_checks}
 use Rattle.model.specs.Step.{quietly, next_line, received_outcome, receive, effect, result_of}
 use Rattle.model.specs.Outcome.{sent}
 use Rattle.model.proofs.laws.Tests.{or_false, Tested, holds, fails, test}
 use Rattle.model.proofs.laws.Lists.{tabulate_length}
 use Rattle.account.specs.declared.NeededLogs.{NeededLogs}
 use Rattle.account.specs.Deeds.{fields_for}
-use Rattle.account.specs.Judging.{in_logical, is_marker, first_on, no_such, physical_now, logical_now, marker_now, ready}
+use Rattle.account.specs.Judging.{in_logical, is_marker, first_on, no_such, physical_now, logical_now, marker_now}
+use Rattle.account.specs.Judging.{ready}
 use Rattle.account.specs.Judging.{commit_now, not_now, no_line_left, nothing_there, closed_before, no_room}
 use Rattle.account.specs.Judging.{message_log_needed, channel_log_needed, logs_of, logs_needed, log_full, turned_down}
 use Rattle.account.specs.Judging.{says, writes_made, said_or, made_or, judge}
@@ -111,9 +114,9 @@ module _ (s : GlobalState) (c : ℕ) where
   -- a receive, by the entries of its channel
   receive_refusal : (es : List Entry) → s.channel c ≡ es
       → turned_down s (fields_of (records.Call (Receive c))) ≡ first_refusal (own_checks s (Receive c))
-  unfolding fields_of first_refusal turned_down no_such not_now no_line_left nothing_there closed_before no_room log_full
-      logs_needed first_on own_checks prior_checks room_checks log_checks has_channel no_entry marker_on_closed first_reaction
-      reaction
+  unfolding fields_of first_refusal turned_down no_such not_now no_line_left nothing_there closed_before no_room
+      log_full logs_needed first_on own_checks prior_checks room_checks log_checks has_channel no_entry marker_on_closed
+      first_reaction reaction
   receive_refusal [] is = rw (is, not_below c s.topology.channels)
   receive_refusal (e ∷ es) is =
       rw (
@@ -125,10 +128,12 @@ module _ (s : GlobalState) (c : ℕ) where
         same_full s.counts c to (logs_of s to e),
       )
 
-same_refusal : (s : GlobalState) (x : Step) → turned_down s (fields_of (records.Call x)) ≡ first_refusal (own_checks s x)
+same_refusal : (s : GlobalState) (x : Step)
+    → turned_down s (fields_of (records.Call x)) ≡ first_refusal (own_checks s x)
 unfolding fields_of first_refusal turned_down no_such not_now no_line_left nothing_there closed_before no_room log_full
-    physical_now logical_now marker_now ready commit_now own_checks prior_checks room_checks log_checks has_process has_channel
-    no_room_for_message no_room_for_marker may_checkpoint_physically may_checkpoint_logically may_send_marker has_physical may_commit
+    physical_now logical_now marker_now ready commit_now own_checks prior_checks room_checks log_checks has_process
+    has_channel no_room_for_message no_room_for_marker may_checkpoint_physically may_checkpoint_logically
+    may_send_marker has_physical may_commit
 same_refusal s (Send c b) = rw (not_below c s.topology.channels, no_room_lem (s.channel c))
 same_refusal s (Receive c) = receive_refusal s c (s.channel c) refl
 same_refusal s Begin = refl
@@ -145,7 +150,8 @@ unfolding logs_writes log_writes append_writes cell_writes
 log_writes_lem n counts c p r l = go l.channel l.message
   where
     go : (x y : Bool)
-        → length (logs_writes n counts (log_if x (channel_log c) ++ log_if y (message_log p)) r) ≡ cond x 2 0 + cond y 3 0
+        → length (logs_writes n counts (log_if x (channel_log c) ++ log_if y (message_log p)) r)
+        ≡ cond x 2 0 + cond y 3 0
     go true true = refl
     go true false = refl
     go false true = refl

@@ -108,8 +108,8 @@ module _ (w : World) (past : Past) (good : topology_refusal w.state.topology ≡
 
   -- a recover, which is accepted
   own_recover : Known T (next T w recovery) (deed_of (reply_to T w recovery) ∷ past)
-  unfolding next reply_to on_reply on_call state_after store_after deed_of fields_for history_of state_or recover_said line_or
-      deed_by fields_of on_deed has_process has_channel recovering.recovered_word recovering.recovered_channel
+  unfolding next reply_to on_reply on_call state_after store_after deed_of fields_for history_of state_or recover_said
+      line_or deed_by fields_of on_deed has_process has_channel recovering.recovered_word recovering.recovered_channel
   own_recover =
       record {
         inv = kept;
@@ -164,7 +164,8 @@ module _ (T : Topology) (good : topology_refusal T ≡ none) where
       subst (λ (X : Topology). topology_refusal X ≡ none → Known X w past → state_of X past ≡ w.state)
       k.inv.topology (own_state w past) good k
 
-pub known_first : (T : Topology) (store : List ℕ) → (initialize T store).refusal ≡ none → Known T (first_world T store) []
+pub known_first : (T : Topology) (store : List ℕ) → (initialize T store).refusal ≡ none
+    → Known T (first_world T store) []
 unfolding first_world initialize startup_or history_of run idle_state
 known_first T store ready =
     record {

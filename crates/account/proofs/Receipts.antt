@@ -118,8 +118,8 @@ module _ (s : GlobalState) (past : Past) (i : Told s.topology s past) (c : ℕ) 
       → let logs : List Log = log_if channel (channel_log c) ++ log_if message (message_log r) in
       raised_all logs s.counts
       ≡ (account_of T (received (hears.body b) (length (logs_writes (next_line s) s.counts logs receipt)))).counts
-  unfolding logs_writes log_writes append_writes cell_writes raised_all raised deed_by fields_of number since messages_logged
-      channel_logged since_clear
+  unfolding logs_writes log_writes append_writes cell_writes raised_all raised deed_by fields_of number since
+      messages_logged channel_logged since_clear
   logs_told b false false receipt = i.counts
   logs_told b false true receipt = λ j. record { messages = one_message j; channels = (i.counts j).channels }
   logs_told b true false receipt = λ j. record { messages = (i.counts j).messages; channels = one_channel j }
@@ -162,8 +162,8 @@ module _ (s : GlobalState) (past : Past) (i : Told s.topology s past) (c : ℕ) 
       → x ≡ reaction_to Logical c (receiver_at s r) Marker
       → Told T (after x)
       (received hears.marker (length (logs_writes (next_line s) s.counts x.logs receipt)))
-  unfolding reaction_to raised_all logs_writes deed_by fields_of line_of number phase_of saved_in closed_in marker_sent this_round
-      since any messages_logged channel_logged since_clear turned
+  unfolding reaction_to raised_all logs_writes deed_by fields_of line_of number phase_of saved_in closed_in marker_sent
+      this_round since any messages_logged channel_logged since_clear turned
   marker_received receipt x logical is =
       rw is
       (record {

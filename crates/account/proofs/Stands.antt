@@ -43,7 +43,8 @@ module _ (s : GlobalState) (h : History) where
   fed x = on_step s.topology x (heard (effect s x).outcome) h
 
   effect_fed : (x : Step) → Prior s x → fed x ≡ on_deed s.topology (deed_in s x) h
-  unfolding on_step on_accepted on_receive effect quietly receive received_outcome deed_by fields_of on_deed on_receipt no_entry
+  unfolding on_step on_accepted on_receive effect quietly receive received_outcome deed_by fields_of on_deed on_receipt
+      no_entry
   effect_fed (Send c b) p = refl
   effect_fed (Receive c) p = go (s.channel c) p.entry
     where
@@ -102,7 +103,8 @@ module _ (s : GlobalState) (st : List ℕ) (h : History) (inv : Inv s st h) (pas
 
   -- where a begin starts the logical phase, no marker was sent before it
   begin_stands : MayBegin s → Stands T (effect s Begin).state.channel (deed_in s Begin ∷ past) h
-  unfolding effect no_progress deed_by fields_of number since any this_round marker_sent closed_in turned behind channel_by
+  unfolding effect no_progress deed_by fields_of number since any this_round marker_sent closed_in turned behind
+      channel_by
   begin_stands may c lc = begin_leaves c ∙ k c lc ∙ rw (unsent c)
     where
       unsent : (c : ℕ) → marker_sent c past ≡ false

@@ -20,7 +20,8 @@ use Rattle.model.specs.Topology.{is_late, first_early}
 use Rattle.model.specs.Phase.{is_logical}
 use Rattle.model.specs.State.{GlobalState, Progress, LogCounts, no_progress, no_counts}
 use Rattle.model.specs.Change.{with_round, with_tag, with_channel, with_progress, with_counts, in_phase, with_logical}
-use Rattle.model.specs.Change.{with_saved, with_sent, set_entries, logical_checkpoint, record_saved, record_sent, end_round}
+use Rattle.model.specs.Change.{with_saved, with_sent, set_entries, logical_checkpoint, record_saved, record_sent}
+use Rattle.model.specs.Change.{end_round}
 use Rattle.model.specs.Heard.{heard}
 use Rattle.model.specs.Write.{Result, Answered}
 use Rattle.model.specs.Step.{quietly, effect, next_line, physical_at, physical_from, after_physical}
@@ -161,13 +162,13 @@ module _ (s : GlobalState) (past : Past) (i : Told s.topology s past) where
   Tells x = Told s.topology (effect s x).state (deed_in s x ∷ past)
 
   pub send_told : (c b : ℕ) → Tells (Send c b)
-  unfolding effect quietly set_entries with_channel deed_by fields_of line_of number phase_of saved_in closed_in marker_sent
-      this_round since any messages_logged channel_logged since_clear turned
+  unfolding effect quietly set_entries with_channel deed_by fields_of line_of number phase_of saved_in closed_in
+      marker_sent this_round since any messages_logged channel_logged since_clear turned
   send_told c b = i
 
   pub mark_told : (p : ℕ) → MayCheckpointLogically s p → Tells (LogicalCheckpoint p)
-  unfolding effect quietly logical_checkpoint with_tag with_progress with_logical deed_by fields_of line_of number phase_of
-      saved_in closed_in marker_sent this_round since any messages_logged channel_logged since_clear turned
+  unfolding effect quietly logical_checkpoint with_tag with_progress with_logical deed_by fields_of line_of number
+      phase_of saved_in closed_in marker_sent this_round since any messages_logged channel_logged since_clear turned
   mark_told p may =
       record {
         round = i.round;
@@ -180,8 +181,8 @@ module _ (s : GlobalState) (past : Past) (i : Told s.topology s past) where
       }
 
   pub marker_told : (c : ℕ) → MaySendMarker s c → Tells (SendMarker c)
-  unfolding effect quietly record_sent set_entries with_channel with_progress with_sent deed_by fields_of line_of number phase_of
-      saved_in closed_in marker_sent this_round since any messages_logged channel_logged since_clear turned
+  unfolding effect quietly record_sent set_entries with_channel with_progress with_sent deed_by fields_of line_of number
+      phase_of saved_in closed_in marker_sent this_round since any messages_logged channel_logged since_clear turned
   marker_told c may =
       record {
         round = i.round;
@@ -194,8 +195,9 @@ module _ (s : GlobalState) (past : Past) (i : Told s.topology s past) where
       }
 
   pub commit_told : MayCommit s → Tells Commit
-  unfolding effect quietly end_round with_round with_progress no_progress next_line deed_by fields_of line_of number phase_of
-      saved_in closed_in marker_sent this_round since any messages_logged channel_logged since_clear turned turned_by
+  unfolding effect quietly end_round with_round with_progress no_progress next_line deed_by fields_of line_of number
+      phase_of saved_in closed_in marker_sent this_round since any messages_logged channel_logged since_clear turned
+      turned_by
   commit_told may =
       record {
         round = ap (λ (r : Round). record { line = r.line + 1; phase = Idle }) i.round;
@@ -208,8 +210,9 @@ module _ (s : GlobalState) (past : Past) (i : Told s.topology s past) where
       }
 
   pub abort_told : Tells Abort
-  unfolding effect quietly end_round with_round with_progress with_tag with_channel no_progress deed_by fields_of line_of number
-      phase_of saved_in closed_in marker_sent this_round since any messages_logged channel_logged since_clear turned turned_by
+  unfolding effect quietly end_round with_round with_progress with_tag with_channel no_progress deed_by fields_of
+      line_of number phase_of saved_in closed_in marker_sent this_round since any messages_logged channel_logged
+      since_clear turned turned_by
   abort_told =
       record {
         round = ap (λ (r : Round). record { line = r.line; phase = Idle }) i.round;
@@ -222,8 +225,8 @@ module _ (s : GlobalState) (past : Past) (i : Told s.topology s past) where
       }
 
   pub begin_told : MayBegin s → Tells Begin
-  unfolding effect deed_by fields_of line_of number phase_of saved_in closed_in marker_sent this_round since any messages_logged
-      channel_logged since_clear turned with_counts no_counts no_progress
+  unfolding effect deed_by fields_of line_of number phase_of saved_in closed_in marker_sent this_round since any
+      messages_logged channel_logged since_clear turned with_counts no_counts no_progress
   begin_told may =
       goes_on (with_counts no_counts s) (turned past) (ap (λ (r : Round). r.line) i.round) i.tag
       (i.quiet (rw (is_idle_lem s.round.phase may.idle))) (none_saved T) refl refl refl 0
@@ -249,8 +252,8 @@ module _ (s : GlobalState) (past : Past) (i : Told s.topology s past) where
       go (other n) = rw (ne_eqb p q n)
 
   pub physical_told : (p : ℕ) → MayCheckpointPhysically s p → Tells (PhysicalCheckpoint p)
-  unfolding effect deed_by fields_of line_of number phase_of saved_in closed_in marker_sent this_round since any messages_logged
-      channel_logged since_clear turned after_physical record_saved with_progress with_saved
+  unfolding effect deed_by fields_of line_of number phase_of saved_in closed_in marker_sent this_round since any
+      messages_logged channel_logged since_clear turned after_physical record_saved with_progress with_saved
   physical_told p may = go may.turn
     where
       go : Turn s p → Tells (PhysicalCheckpoint p)

@@ -73,4 +73,5 @@ holds_marker c past = marker_sent c past && not (closed_in c past)
 -- the entries of channel c, by the histories h
 unfoldable pub channel_by : Topology → Past → History → ℕ → List Entry
 channel_by T past h c =
-    let es : List Entry = under_way T (turned past) h c in cond (holds_marker c past) (with_marker (behind c past) es) es
+    let es : List Entry = under_way T (turned past) h c in
+    cond (holds_marker c past) (with_marker (behind c past) es) es

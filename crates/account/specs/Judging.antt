@@ -3,7 +3,8 @@
 -- as numbered above". Of the first account nothing is used but its names for things: a state, a plan, an answer. (A
 -- state that is told is sound, its plan was accepted, and there is no store: 15, 6, a restart's 1 to 5 and 19, and 16
 -- don't come up.)
-use Rattle.std.specs.Prelude.{ℕ, ◌+◌, ◌-◌, Bool, true, false, cond, not, ◌&&◌, ◌||◌, List, [], ◌∷◌, length, leb, ltb, eqb}
+use Rattle.std.specs.Prelude.{ℕ, ◌+◌, ◌-◌, Bool, true, false, cond, not, ◌&&◌, ◌||◌, List, [], ◌∷◌, length, leb, ltb}
+use Rattle.std.specs.Prelude.{eqb}
 use Rattle.std.specs.Bool.{beq}
 use Rattle.std.proofs.Math.Option.{Option, none, some}
 use Rattle.model.specs.declared.Phase.{Phase}
@@ -193,4 +194,8 @@ made_or (some n) made = 0
 unfoldable pub judge : GlobalState → Call → Reply
 judge s c =
     let f : Fields = fields_for c in
-    record { call = c; outcome = said_or (turned_down s f) (says s f); made = made_or (turned_down s f) (writes_made s f) }
+    record {
+      call = c;
+      outcome = said_or (turned_down s f) (says s f);
+      made = made_or (turned_down s f) (writes_made s f);
+    }

@@ -49,7 +49,8 @@ is_send_lem c e t =
 abbrev There : ℕ → ℕ → List Event → ℕ → Type 0
 There c n es b = take 1 (drop (place_of_send c n es) es) ≡ sent_on c b ∷ []
 
-nth_send : (c n : ℕ) (es : List Event) (b : ℕ) (rest : List ℕ) → drop n (bodies_on sent c es) ≡ b ∷ rest → There c n es b
+nth_send : (c n : ℕ) (es : List Event) (b : ℕ) (rest : List ℕ) → drop n (bodies_on sent c es) ≡ b ∷ rest
+    → There c n es b
 unfolding bodies_on place_of_send
 nth_send c zero [] b rest p = cc
 nth_send c (suc n) [] b rest p = cc
@@ -62,7 +63,8 @@ nth_send c zero (e ∷ es) b rest p = go (test (is_on sent c e)) (nth_send c zer
         let own : e.body ≡ b = cc in
         rw t (ap (λ (x : Event). x ∷ []) (is_send_lem c e t ∙ ap (sent_on c) own))
     go (fails t) ih = rw t (ih (rw t at p))
-nth_send c (suc n) (e ∷ es) b rest p = go (test (is_on sent c e)) (nth_send c n es b rest) (nth_send c (suc n) es b rest)
+nth_send c (suc n) (e ∷ es) b rest p = go (test (is_on sent c e)) (nth_send c n es b rest)
+    (nth_send c (suc n) es b rest)
   where
     go : Tested (is_on sent c e) → (drop n (bodies_on sent c es) ≡ b ∷ rest → There c n es b)
         → (drop (suc n) (bodies_on sent c es) ≡ b ∷ rest → There c (suc n) es b) → There c (suc n) (e ∷ es) b

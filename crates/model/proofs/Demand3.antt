@@ -48,8 +48,8 @@ step_keeps w x budget i =
 
 recover_keeps : (w : World) → topology_refusal w.state.topology ≡ none → InvOf w.state.topology w
     → InvOf w.state.topology (next w.state.topology w recovery)
-unfolding next reply_to on_reply on_call state_after store_after commits_after count_commit is_commit recover_said line_or
-    state_or idle_state
+unfolding next reply_to on_reply on_call state_after store_after commits_after count_commit is_commit recover_said
+    line_or state_or idle_state
 recover_keeps w good i =
     rw (
       (recovers w.state w.store w.history good i.holds).accepted,

@@ -37,8 +37,8 @@ module _ (s : GlobalState) (store : List ℕ) (c d budget : ℕ) (fit : sound s 
     (holds-them : s.channel c ≡ es) where
   full : eqb (room_left es) 0 ≡ true → (answer s (Send c d) store budget).outcome ≡ refused 9
   unfolding
-      answer step step_checks own_checks prior_checks room_checks first_refusal result_of quietly under_budget has_channel
-      no_room_for_message
+      answer step step_checks own_checks prior_checks room_checks first_refusal result_of quietly under_budget
+      has_channel no_room_for_message
   full e =
       rw (
         fit,
@@ -51,8 +51,8 @@ module _ (s : GlobalState) (store : List ℕ) (c d budget : ℕ) (fit : sound s 
 
   free : eqb (room_left es) 0 ≡ false → (answer s (Send c d) store budget).outcome ≡ sent (room_left es - 1)
   unfolding
-      answer step step_checks own_checks prior_checks room_checks log_checks first_refusal result_of effect quietly under_budget
-      has_channel no_room_for_message
+      answer step step_checks own_checks prior_checks room_checks log_checks first_refusal result_of effect quietly
+      under_budget has_channel no_room_for_message
   free e =
       rw (
         fit,
@@ -68,7 +68,8 @@ module _ (s : GlobalState) (store : List ℕ) (c d budget : ℕ) (fit : sound s 
   found = go (test (eqb (room_left es) 0))
     where
       go : Tested (eqb (room_left es) 0)
-          → (answer s (Send c d) store budget).outcome ≡ cond (eqb (room_left es) 0) (refused 9) (sent (room_left es - 1))
+          → (answer s (Send c d) store budget).outcome
+          ≡ cond (eqb (room_left es) 0) (refused 9) (sent (room_left es - 1))
       go (holds t) = rw t (full t)
       go (fails t) = rw t (free t)
 

@@ -54,7 +54,8 @@ module _ (T : Topology) where
         ap (λ (s : Session). s.lines) (serves_on n w r rs)
         ∙ ap (λ (ls : List Line). reply_line n (reply_to T w (call_of r)) ∷ ls)
         (lines_are (n + 1) (next T w (call_of r)) rs
-        ∙ ap (λ (m : ℕ). reply_lines (n + 1) (trace T (next T w (call_of r)) (map call_of rs)) ++ broken_line broken m) e)
+        ∙ ap (λ (m : ℕ). reply_lines (n + 1) (trace T (next T w (call_of r)) (map call_of rs))
+        ++ broken_line broken m) e)
 
     state_is_lem : (n : ℕ) (w : World) (requests : List Request)
         → ((from n w requests).state ≡ (run T w (map call_of requests)).state)

@@ -54,7 +54,8 @@ abbrev pub ChannelsBy : ChannelRule → GlobalState → Type 0
 ChannelsBy rule x = (c : ℕ) → c < x.topology.channels → channel_sound_by rule x c ≡ true
 
 -- logs count one entry more, where they aren't full
-raised_fits : (T : Topology) (log : Log) (n : LogCounts) → count_of n log < places log → Fits T n → Fits T (raised log n)
+raised_fits : (T : Topology) (log : Log) (n : LogCounts) → count_of n log < places log → Fits T n
+    → Fits T (raised log n)
 unfolding raised
 raised_fits T (message_log p) n l h (message_log q) k =
     upd_all (λ m. m ≤ places (message_log q)) T.processes n.messages p _ (omega arith) (λ j. h (message_log j)) q k
@@ -160,8 +161,8 @@ module _ (rule : ChannelRule) (s : GlobalState) (h : SoundBy rule s) where
   after_physical_lem p (late e _ _ _) = rw e (as_it_was _ refl refl refl)
 
   pub effect_clauses : (x : Step) → Prior s x → Passed (log_checks s x) → After (effect s x).state
-  unfolding effect quietly set_entries with_channel logical_checkpoint with_tag with_progress with_counts record_sent end_round
-      with_round phase_sound line_sound log_checks
+  unfolding effect quietly set_entries with_channel logical_checkpoint with_tag with_progress with_counts record_sent
+      end_round with_round phase_sound line_sound log_checks
   effect_clauses (Send c b) p q = as_it_was _ refl refl refl
   effect_clauses (Receive c) p q = received_by c (s.channel c) q.0
   effect_clauses Begin p q = goes_on (with_counts no_counts s) 0 refl (none_counted s.topology) p.line

@@ -103,7 +103,8 @@ starred =
     -- "Begin above with 3: cut, 3 made. With 4: done."
     ∷ record {
       got =
-          answer_line 1 (answer_in (after_steps input 0) Begin 3) ∷ answer_line 1 (answer_in (after_steps input 0) Begin 4) ∷
+          answer_line 1 (answer_in (after_steps input 0) Begin 3)
+          ∷ answer_line 1 (answer_in (after_steps input 0) Begin 4) ∷
           [];
       expected = (1 ∷ power_lost ∷ 3 ∷ []) ∷ (1 ∷ done ∷ 4 ∷ []) ∷ [];
     }
@@ -149,7 +150,9 @@ starred =
     }
     -- "05 02 00 is 7; 01 02 takes wire 0." Take is kind 2.
     ∷ record {
-      got = reading_numbers (read_record (0x05 ∷ 0x02 ∷ 0x00 ∷ [])) ∷ reading_numbers (read_record (0x01 ∷ 0x02 ∷ [])) ∷ [];
+      got =
+          reading_numbers (read_record (0x05 ∷ 0x02 ∷ 0x00 ∷ []))
+          ∷ reading_numbers (read_record (0x01 ∷ 0x02 ∷ [])) ∷ [];
       expected = (refused ∷ 7 ∷ []) ∷ (2 ∷ 0 ∷ 0 ∷ 0 ∷ []) ∷ [];
     }
     -- "Give up after step 6 above: 7 and 5 stay, both tagged 0."

@@ -150,8 +150,10 @@ late_cases =
     ∷ record {
       got =
           answer_line 3 (answer_in (after_steps late_round 2) Abort program.full_budget)
-          ∷ answer_line 3 (answer_in (in_state (in_phase (Physical 1)) (after_steps late_round 2)) Abort program.full_budget)
-          ∷ answer_line 1 (answer_in (in_state (under_plan unknown_late) (after_steps late_round 0)) Begin program.full_budget)
+          ∷ answer_line 3
+          (answer_in (in_state (in_phase (Physical 1)) (after_steps late_round 2)) Abort program.full_budget)
+          ∷ answer_line 1
+          (answer_in (in_state (under_plan unknown_late) (after_steps late_round 0)) Begin program.full_budget)
           ∷ [];
       expected = (3 ∷ done ∷ 0 ∷ []) ∷ (3 ∷ refused ∷ 15 ∷ 0 ∷ []) ∷ (1 ∷ refused ∷ 15 ∷ 0 ∷ []) ∷ [];
     }

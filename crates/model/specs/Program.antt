@@ -1,6 +1,7 @@
 -- Document 01's program `head`, as data: the plan's bytes, and what is answered to the records after them. The text of
 -- a line is not here.
-use Rattle.std.specs.Prelude.{ℕ, zero, suc, ◌+◌, ◌*◌, Bool, true, false, cond, List, [], ◌∷◌, length, get_or, take, drop, replicate, ltb}
+use Rattle.std.specs.Prelude.{ℕ, zero, suc, ◌+◌, ◌*◌, Bool, true, false, cond, List, [], ◌∷◌, length, get_or, take}
+use Rattle.std.specs.Prelude.{drop, replicate, ltb}
 use Rattle.std.proofs.Math.Option.{Option, none, some, or_else}
 use Rattle.model.specs.declared.Topology.{Topology}
 use Rattle.model.specs.declared.Record.{Record}
@@ -102,7 +103,8 @@ reading_then (some r) more = record { requests = r.0 ∷ (more r.1).requests; br
 unfoldable pub read_all : BudgetSource → ℕ → List ℕ → Readings
 read_all source zero bytes = record { requests = []; broken = false }
 read_all source (suc fuel) [] = record { requests = []; broken = false }
-read_all source (suc fuel) (b ∷ bytes) = reading_then (read_request source (b ∷ bytes)) (λ rest. read_all source fuel rest)
+read_all source (suc fuel) (b ∷ bytes) =
+    reading_then (read_request source (b ∷ bytes)) (λ rest. read_all source fuel rest)
 
 -- what is said of one request, and the state and the store after it
 pub record Served : Type 0 where

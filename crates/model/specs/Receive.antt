@@ -45,8 +45,8 @@ reaction_to (Physical next) c r (Message b t) =
 reaction_to Logical c r Marker = record { logical_first = not r.logical; closes = true; logs = [] }
 -- "A message whose tag differs from an unmarked receiver's marks it first and isn't logged. With equal tags, an
 -- unmarked receiver logs in its board log, a marked one logs nothing. With a different tag, a marked receiver logs in
--- the wire log": so for an early receiver. Of the board log of a late one in_message_log decides by M-105, and what goes
--- there goes "after any wire log entry, whose place is checked first".
+-- the wire log": so for an early receiver. Of the board log of a late one in_message_log decides by M-105, and what
+-- goes there goes "after any wire log entry, whose place is checked first".
 reaction_to Logical c r (Message b t) =
     let differs : Bool = not (beq t r.tag) in
     record {

@@ -1,7 +1,8 @@
 -- Document 01, "Records": "A record opens with a bit map byte: bit 0 kind (1 byte, 1 to 9, as numbered above; 9 is
 -- restart), bit 1 board (1 byte), bit 2 wire (1 byte), bit 3 body (4 bytes, lowest first); only fields whose bit stands
 -- follow, in that order."
-use Rattle.std.specs.Prelude.{ℕ, ◌+◌, ◌*◌, ◌/◌, ◌%◌, ◌<◌, Bool, true, false, cond, ◌&&◌, List, [], ◌∷◌, ◌++◌, get_or, ltb, eqb}
+use Rattle.std.specs.Prelude.{ℕ, ◌+◌, ◌*◌, ◌/◌, ◌%◌, ◌<◌, Bool, true, false, cond, ◌&&◌, List, [], ◌∷◌, ◌++◌, get_or}
+use Rattle.std.specs.Prelude.{ltb, eqb}
 use Rattle.std.proofs.Math.Option.{Option, none, some}
 use Rattle.model.specs.declared.Record.{Record}
 use Rattle.model.specs.declared.Record.TheVariants.{Call, Recover}

@@ -98,4 +98,9 @@ trace T w (c ∷ cs) = reply_to T w c ∷ trace T (next T w c) cs
 -- the start: what initialize leaves
 unfoldable pub first_world : Topology → List ℕ → World
 first_world T store =
-    record { state = (initialize T store).state; store = (initialize T store).store; history = new_history; commits = 0 }
+    record {
+      state = (initialize T store).state;
+      store = (initialize T store).store;
+      history = new_history;
+      commits = 0;
+    }

@@ -21,7 +21,8 @@ initialize_refusal T cells = recovery.initialize_refusal present T cells
 unfoldable pub initialize_writes : Topology → List Write
 initialize_writes T =
     concat_below T.processes
-    (λ p. record { cell = physical_cell 0 p; value = 0 } ∷ record { cell = count_cell 0 (message_log p); value = 0 } ∷ [])
+    (λ p. record { cell = physical_cell 0 p; value = 0 } ∷ record { cell = count_cell 0 (message_log p); value = 0 }
+    ∷ [])
     ++ tabulate T.channels (λ c. record { cell = count_cell 0 (channel_log c); value = 0 })
     ++ commit_writes 0
 

@@ -115,7 +115,7 @@ abbrev pub entries_in : List Places → List ℕ → ℕ → List Entry
 entries_in places lengths c = entries (held (get_or places c no_places) (get_or lengths c 0))
 
 -- How a state of the code is seen. Nothing is hidden but the unused places of channels, and by which of the kinds over
--- 1, and beside which body, a marker is written (Channel.entryOf).
+-- 1, and beside which body, a marker is written (Channel.entry_of).
 unfoldable pub view : State → GlobalState
 view s =
     record {

@@ -1,11 +1,13 @@
 -- Refusals 3 to 5 pass where every channel joins two processes and all are apart, and 19 where every late bit is that
 -- of a process: the topology's checks in a pass for each.
-use Rattle.std.proofs.Common.{◌≡◌, ℕ, zero, suc, ◌/◌, ◌^◌, ◌<◌, Bool, true, false, cond, not, ◌&&◌, eqb, ltb, refl, ◌∙◌, ltb-true}
+use Rattle.std.proofs.Common.{◌≡◌, ℕ, zero, suc, ◌/◌, ◌^◌, ◌<◌, Bool, true, false, cond, not, ◌&&◌, eqb, ltb, refl, ◌∙◌}
+use Rattle.std.proofs.Common.{ltb-true}
 use mathlib.Core.Option.{Option, none, some, or_else}
 use Rattle.model.specs.declared.Topology.{Topology}
 use Rattle.model.specs.Notation.{all_below, first_below}
 use Rattle.model.specs.Check.{accepts, first_refusal}
-use Rattle.model.specs.Topology.{sender, receiver, has_process, same_ends, channel_refusal, channels_refusal, late_refusal}
+use Rattle.model.specs.Topology.{sender, receiver, has_process, same_ends, channel_refusal, channels_refusal}
+use Rattle.model.specs.Topology.{late_refusal}
 use Rattle.model.proofs.laws.Tests.{true_is_not_false, and_left, and_right}
 use Rattle.rules.specs.Ends.{joins_two, apart}
 

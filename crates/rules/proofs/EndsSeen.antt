@@ -1,5 +1,7 @@
 -- The table of the ends seen, which answers for all earlier channels at once.
-use Rattle.std.proofs.Common.{◌≡◌, ℕ, suc, ◌+◌, ◌*◌, ◌<◌, Bool, true, false, not, ◌&&◌, eqb, List, length, get_or, set, replicate, sym, refl, ap, ◌∙◌, add-one, arith, length-set, get_or-set_other, get_or-set_same, eq-eqb, ne_eqb}
+use Rattle.std.proofs.Common.{◌≡◌, ℕ, suc, ◌+◌, ◌*◌, ◌<◌, Bool, true, false, not, ◌&&◌, eqb, List, length, get_or, set}
+use Rattle.std.proofs.Common.{replicate, sym, refl, ap, ◌∙◌, add-one, arith, length-set, get_or-set_other}
+use Rattle.std.proofs.Common.{get_or-set_same, eq-eqb, ne_eqb}
 use lib.ListN.{get_or-replicate}
 use Rattle.model.specs.declared.Topology.{Topology}
 use Rattle.model.specs.Notation.{all_below}
@@ -27,7 +29,8 @@ unfolding all_below
 seen_none T =
     record {
       size = refl;
-      free = λ f r lf lr. ap not (get_or-replicate (process_limit * process_limit) (place f r) false false (omega arith));
+      free = λ f r lf lr. ap not
+          (get_or-replicate (process_limit * process_limit) (place f r) false false (omega arith));
     }
 
 and_true : (a : Bool) → a ≡ (a && true)

@@ -134,7 +134,8 @@ filled_more f l d x n g z h e q =
 
 -- and of two arrays that are seen together
 pub filled_both : {A B C : Type 0} (f : A → B → C) (l : List A) (m : List B) (d x : A) (e y : B) (n : ℕ) (g : ℕ → C)
-    (z : C) → n < length l → n < length m → (λ (i : ℕ). f (get_or l i d) (get_or m i e)) ≡ filled_below n g z → f x y ≡ g n
+    (z : C) → n < length l → n < length m → (λ (i : ℕ). f (get_or l i d) (get_or m i e)) ≡ filled_below n g z
+    → f x y ≡ g n
     → (λ (i : ℕ). f (get_or (set l n x) i d) (get_or (set m n y) i e)) ≡ filled_below (n + 1) g z
 filled_both f l m d x e y n g z h k is q =
     seen_set_both f l m n x d y e h k ∙ ap₂ (λ (s : ℕ → _) (v : _). upd s n v) is q ∙ filled_next n g z

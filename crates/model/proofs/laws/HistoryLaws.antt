@@ -100,7 +100,8 @@ pub word_sent : (xs : List Event) (c b : ℕ) → word_of (xs ++ (sent_on c b �
 unfolding word_of receipts_of same_direction
 word_sent xs c b = ap (replay 0) (receipts_append xs (sent_on c b ∷ []) ∙ append-nil _)
 
-pub word_received : (xs : List Event) (c b : ℕ) → word_of (xs ++ (received_on c b ∷ [])) ≡ enter (word_of xs) (receipt c b)
+pub word_received : (xs : List Event) (c b : ℕ)
+    → word_of (xs ++ (received_on c b ∷ [])) ≡ enter (word_of xs) (receipt c b)
 unfolding word_of receipts_of same_direction
 word_received xs c b =
     ap (replay 0) (receipts_append xs (received_on c b ∷ [])) ∙ replay_snoc enter 0 (receipts_of xs) (receipt c b)
@@ -147,7 +148,8 @@ place_early c (suc m) zero (e ∷ es) p = go (test (is_on sent c e)) (place_earl
     go : Tested (is_on sent c e) → Early c m zero es → place_of_send c zero (e ∷ es) < suc m
     go (holds t) ih = rw t (omega arith)
     go (fails t) ih = rw t (omega (arith, ih (rw t at p)))
-place_early c (suc m) (suc n) (e ∷ es) p = go (test (is_on sent c e)) (place_early c m n es) (place_early c m (suc n) es)
+place_early c (suc m) (suc n) (e ∷ es) p =
+    go (test (is_on sent c e)) (place_early c m n es) (place_early c m (suc n) es)
   where
     go : Tested (is_on sent c e) → Early c m n es → Early c m (suc n) es → place_of_send c (suc n) (e ∷ es) < suc m
     go (holds t) fewer ih = rw t (omega (arith, fewer (omega (arith, rw t at p))))

@@ -1,5 +1,5 @@
--- Laws of lists from a function (`tabulate`, `concat_below`), of tests below a bound (`all_below`) and of the first below
--- a bound (`first_below`): from the values, at one index, and with one more, as a loop that counts up adds them.
+-- Laws of lists from a function (`tabulate`, `concat_below`), of tests below a bound (`all_below`) and of the first
+-- below a bound (`first_below`): from the values, at one index, and with one more, as a loop that counts up adds them.
 use Prim.Native.Nat.{ℕ, zero, suc, ◌+◌, ◌<◌, ◌≤◌}
 use mathlib.Core.Path.{◌≡◌, refl, ap, ap₂, ◌∙◌}
 use mathlib.Core.Bool.{Bool, true, false, cond, ◌&&◌}
@@ -100,7 +100,8 @@ all_but n c f l e = go (test (all_below n f))
     go (fails p) = p
 
 -- every number below n has a value within its bound
-pub at_most : (n : ℕ) (f bound : ℕ → ℕ) → all_below n (λ i. leb (f i) (bound i)) ≡ true → (i : ℕ) → i < n → f i ≤ bound i
+pub at_most : (n : ℕ) (f bound : ℕ → ℕ) → all_below n (λ i. leb (f i) (bound i)) ≡ true → (i : ℕ) → i < n
+    → f i ≤ bound i
 at_most n f bound e i l = leb-true (f i) (bound i) (all_at n (λ j. leb (f j) (bound j)) e i l)
 
 -- where two have no first, neither has one

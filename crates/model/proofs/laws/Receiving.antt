@@ -44,8 +44,8 @@ module _ (s : GlobalState) (c r : ℕ) (es : List Entry) where
   reacted : (first closes : Bool) (logs : List Log) (e : Entry)
       → let x : Reaction = record { logical_first = first; closes = closes; logs = logs } in
       entered x e ≡ after_receive x c r es (entered x e).word s
-  unfolding entered react close logical_checkpoint enter_message set_entries with_word with_tag with_channel with_progress
-      with_counts with_logical with_closed
+  unfolding entered react close logical_checkpoint enter_message set_entries with_word with_tag with_channel
+      with_progress with_counts with_logical with_closed
   reacted true true logs (Message b t) = refl
   reacted true true logs Marker = refl
   reacted true false logs (Message b t) = refl

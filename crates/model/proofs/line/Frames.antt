@@ -44,7 +44,8 @@ module _ {st st' : List ℕ} (n p : ℕ) where
       slot_by_lem st' n p (cell st (count_cell n (message_log p))) (sym e.log.count) ∙ slot_same n p _ e
       ∙ sym (slot_by_lem st n p (cell st (count_cell n (message_log p))) refl)
 
-  pub held_own : SameLog n (channel_log p) (cell st (count_cell n (channel_log p))) st st' → held_of st' n p ≡ held_of st n p
+  pub held_own : SameLog n (channel_log p) (cell st (count_cell n (channel_log p))) st st'
+      → held_of st' n p ≡ held_of st n p
   held_own e =
       held_by_lem st' n p (cell st (count_cell n (channel_log p))) (sym e.count) ∙ held_same n p _ e
       ∙ sym (held_by_lem st n p (cell st (count_cell n (channel_log p))) refl)

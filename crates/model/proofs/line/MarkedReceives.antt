@@ -199,6 +199,7 @@ module _ (s : GlobalState) (st : List ℕ) (h : History) (i : Inv s st h) (ends 
       unfolding logs_writes log_writes append_writes cell_writes
       old_lost old (holds e) room =
           rw e
-          (both_lost old (channel_room_lem _ room) e (message_room [] (rw e at (other_room (channel_log c) anti_logs room))))
+          (both_lost old (channel_room_lem _ room) e (message_room [] (rw e at (other_room
+          (channel_log c) anti_logs room))))
       old_lost old (fails e) room =
           rw e (log_lost_kept s st h i fits (channel_log c) l got (channel_room_lem _ room))

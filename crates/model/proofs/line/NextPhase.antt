@@ -119,7 +119,8 @@ module _ (s : GlobalState) (st : List ℕ) (h : History) (q : ℕ) (ends : EndsP
 
     process : (p : ℕ) → p < s.topology.processes → Tested (is_late s.topology p)
         → LogicalProcess i.tag (process_at logical st h p)
-    unfolding in_phase with_round with_progress no_progress tagged before physical_now form.restore form.restore_by undo_by
+    unfolding in_phase with_round with_progress no_progress tagged before physical_now form.restore form.restore_by
+        undo_by
     process p l (holds e) =
         let v = process_in i refl p l in
         record {

@@ -85,7 +85,8 @@ module _ (s : GlobalState) (st : List ℕ) (h : History) (c : ℕ) (l : c < s.to
         reacts (Message b u) es is (λ room. record { lasts = rw told (lasts room); lost = lost room })
 
     -- into none, into its receiver's message log alone, and into the channel's alone
-    into_none : reaction s c (Message b u) ≡ logs_only [] → on_message s.topology c b h ≡ add_event r (received_on c b) h
+    into_none : reaction s c (Message b u) ≡ logs_only []
+        → on_message s.topology c b h ≡ add_event r (received_on c b) h
         → Receives s st h i ends c b u es l (receiving c b process.count process.pending process)
         → Leaves s st h i ends c b u es l (leaving es arrived channel.count channel.pending channel)
         → Kept (reaction s c (Message b u)) (Message b u) es
@@ -222,7 +223,8 @@ module _ (s : GlobalState) (st : List ℕ) (h : History) (c : ℕ) (l : c < s.to
             record {
               lasts =
                   rw told
-                  (new_received (logical_checkpoint r s) st (mark_now r h) (logical_kept s st h r rl phase e i) ends fits
+                  (new_received (logical_checkpoint r s) st (mark_now r h)
+                  (logical_kept s st h r rl phase e i) ends fits
                   c b u es l phase (upd_same s.progress.logical r true) first
                   (new ∙ ap not (sym (logical_tag s st h r rl phase e i))) unsaved_now room);
               lost = anti_lost s st h i ends fits c b u es l unsaved_now room;
@@ -255,7 +257,8 @@ module _ (s : GlobalState) (st : List ℕ) (h : History) (c : ℕ) (l : c < s.to
         record {
           lasts =
               rw (no_mark (process_in i phase r rl).round.mark e)
-              (marker_received (logical_checkpoint r s) st (mark_now r h) (logical_kept s st h r rl phase e i) c es phase
+              (marker_received (logical_checkpoint r s) st (mark_now r h)
+              (logical_kept s st h r rl phase e i) c es phase
               (upd_same s.progress.logical r true) first);
           lost = λ x k. absurd (omega arith);
         })

@@ -181,7 +181,8 @@ module _ (T : Topology) (store : List ℕ) (accepted : (initialize T store).refu
   blank_log c l = rw (blank.counts (channel_log c) l)
 
   pub initialize_holds : Inv (initialize T store).state (initialize T store).store new_history
-  unfolding idle_state new_history book_of seen_of slot_of slot_by held_of word_of receipts_of replay_by bodies_on bodies messages
+  unfolding idle_state new_history book_of seen_of slot_of slot_by held_of word_of receipts_of replay_by bodies_on
+      bodies messages
   initialize_holds =
       subst (λ (r : Startup). Inv r.state r.store new_history) (sym initialize_is)
       (record {

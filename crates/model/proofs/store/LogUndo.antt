@@ -31,7 +31,8 @@ module _ (store : List ℕ) (w at n : ℕ) where
       → get_or (receipts store w at n) i d ≡ receipt_in (cells_from store w (entry_cell w at i))
   unfolding entries_from
   receipt_at i d l =
-      ap (λ (rs : List Receipt). get_or rs i d) (map_tabulate receipt_in n (λ j. cells_from store w (entry_cell w at j)))
+      ap (λ (rs : List Receipt). get_or rs i d)
+      (map_tabulate receipt_in n (λ j. cells_from store w (entry_cell w at j)))
       ∙ tabulate_at n (λ j. receipt_in (cells_from store w (entry_cell w at j))) i d l
 
 module _ {rule : ℕ → Receipt → ℕ} {store : List ℕ} {w at n first : ℕ} where

@@ -89,7 +89,10 @@ module _ (T : Topology) (st : List ℕ) (sized : Sized present T st) where
 
     slot_process : (p : ℕ) → p < T.processes → (k : ℕ) → k ≤ places (message_log p) → SameProcess n p k st st'
     slot_process p l k fits =
-        record { physical = h (physical_cell n p) (physical_within sized n p l); log = slot_log (message_log p) l k fits }
+        record {
+          physical = h (physical_cell n p) (physical_within sized n p l);
+          log = slot_log (message_log p) l k fits;
+        }
 
   -- each step's writes but commit's go into one slot
   pub clear_in : (n : ℕ) → InSlot n (clear_writes T n)

@@ -1,5 +1,6 @@
 -- `cells::at_most` meets its contract: where the last cell is in the store, all are.
-use Rattle.std.proofs.Common.{ℕ, ◌+◌, ◌-◌, ◌*◌, ◌<◌, ◌≤◌, Bool, ◌&&◌, ltb, leb, List, length, sym, mul-le-mul_left, arith, w8, w32, Fits, rules, le-ltb, lt-ltb}
+use Rattle.std.proofs.Common.{ℕ, ◌+◌, ◌-◌, ◌*◌, ◌<◌, ◌≤◌, Bool, ◌&&◌, ltb, leb, List, length, sym, mul-le-mul_left}
+use Rattle.std.proofs.Common.{arith, w8, w32, Fits, rules, le-ltb, lt-ltb}
 use Rattle.model.specs.Notation.{all_below}
 use Rattle.model.specs.Form.{cell}
 use Rattle.model.proofs.laws.Lists.{all_but}
@@ -18,7 +19,8 @@ abbrev decreases-loop : tie.decreases-loop-i
 decreases-loop store first stride n limit from step so₀ i₀ so i = n - i
 
 -- the last cell's number is no larger than a machine word
-last_low : (s : tie.Start invariant-loop decreases-loop) → s.args.first + s.args.stride * (s.args.n - 1) < 4294967296 * 256
+last_low : (s : tie.Start invariant-loop decreases-loop)
+    → s.args.first + s.args.stride * (s.args.n - 1) < 4294967296 * 256
 last_low s =
     let a = s.args in
     let first : Fits w32 a.first = search rules in
@@ -67,7 +69,8 @@ returns-3 c = all_tested c.loop-i.invariant (λ l. omega (arith, l))
 pub at_most_spec : {M : Type 1} → statement M
 at_most_spec =
     tie.close
-    (tie.spec invariant-loop decreases-loop returns (λ c. omega (arith, c.if-n-eq0.false)) (λ c. omega (arith, c.if-n-eq0.false))
+    (tie.spec invariant-loop decreases-loop returns (λ c. omega (arith, c.if-n-eq0.false))
+    (λ c. omega (arith, c.if-n-eq0.false))
     (λ c. omega (arith, last_low c.before)) (λ c. omega (arith, last_low c.before)) returns-2 (λ c. none_yet)
     (λ c. omega (arith, low c)) (λ c. omega (arith, low c)) (λ c. omega (arith, low c)) (λ c. omega (arith, low c))
     (λ c. inside c.before) (λ c. search rules) (λ c. omega arith) loop-again returns-3)

@@ -1,6 +1,7 @@
 -- `rules::channel::plain` meets its contract. The loop's invariant: r holds the messages among the first i entries,
 -- with tag 0.
-use Rattle.std.proofs.Common.{◌≡◌, ℕ, ◌-◌, ◌≤◌, Bool, false, ltb, length, sym, refl, ap, ◌∙◌, ⊎_elim, arith, rules, ltb-false}
+use Rattle.std.proofs.Common.{◌≡◌, ℕ, ◌-◌, ◌≤◌, Bool, false, ltb, length, sym, refl, ap, ◌∙◌, ⊎_elim, arith, rules}
+use Rattle.std.proofs.Common.{ltb-false}
 use Rattle.model.specs.declared.Channel.{Channel}
 use Rattle.model.specs.declared.Entry.TheVariants.{Message}
 use Rattle.model.specs.Notation.{tabulate}
@@ -73,6 +74,7 @@ returns c =
 pub plain_spec : {M : Type 1} → statement M
 plain_spec =
     tie.close
-    (tie.spec invariant-loop decreases-loop (λ c κs. search rules) (λ c κs. search rules) loop-holds (λ c κs. search rules)
+    (tie.spec invariant-loop decreases-loop (λ c κs. search rules) (λ c κs. search rules) loop-holds
+    (λ c κs. search rules)
     (λ c. search rules) (λ c κs. search rules) (λ c. search rules) (λ c. search rules) (λ c. search rules) loop-again
     returns)

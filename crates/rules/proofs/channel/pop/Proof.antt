@@ -1,6 +1,7 @@
 -- `rules::channel::pop` meets its contract. The loop's invariant: the places below i hold what stood one place further
 -- on, and the others nothing.
-use Rattle.std.proofs.Common.{◌≡◌, ℕ, ◌+◌, ◌-◌, ◌<◌, ◌≤◌, ltb, length, get_or, sym, refl, ap, ◌∙◌, arith, length-set, rules, ltb-false, ltb-true}
+use Rattle.std.proofs.Common.{◌≡◌, ℕ, ◌+◌, ◌-◌, ◌<◌, ◌≤◌, ltb, length, get_or, sym, refl, ap, ◌∙◌, arith, length-set}
+use Rattle.std.proofs.Common.{rules, ltb-false, ltb-true}
 use Rattle.model.specs.declared.Channel.{Channel}
 use Rattle.model.proofs.laws.Functions.{Indices, indices, same, other, seen_replicate}
 use Rattle.model.proofs.laws.Tests.{Tested, holds, fails, test}

@@ -19,5 +19,6 @@ returns c = all_tested c.loop-i.invariant (λ l. omega (arith, l))
 pub at_most_spec : {M : Type 1} → statement M
 at_most_spec =
     tie.close
-    (tie.spec invariant-loop decreases-loop (λ c. none_yet) (λ c. omega arith) (λ c. omega arith) (λ c. omega arith) loop-again
+    (tie.spec invariant-loop decreases-loop (λ c. none_yet) (λ c. omega arith) (λ c. omega arith)
+    (λ c. omega arith) loop-again
     returns)

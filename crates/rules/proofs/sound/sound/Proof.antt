@@ -1,6 +1,7 @@
 -- `rules::sound::sound` meets its contract: the topology is refused, or each clause of the definition is one of the
 -- code's tests.
-use Rattle.std.proofs.Common.{◌≡◌, ℕ, Bool, true, false, ◌&&◌, [], ◌∷◌, length, get_or, sym, refl, ap, ◌∙◌, arith, rules}
+use Rattle.std.proofs.Common.{◌≡◌, ℕ, Bool, true, false, ◌&&◌, [], ◌∷◌, length, get_or, sym, refl, ap, ◌∙◌, arith}
+use Rattle.std.proofs.Common.{rules}
 use mathlib.Core.Path.{fun_ext}
 use borrow.Author.Tests.{not-true, not-false}
 use Rattle.model.specs.declared.State.{State}
@@ -8,7 +9,8 @@ use Rattle.model.specs.Notation.{all_true, all_below}
 use Rattle.model.specs.Topology.{channel_limit, topology_refusal}
 use Rattle.model.specs.Layout.{message_log, channel_log}
 use Rattle.model.specs.State.{GlobalState, view, view_counts}
-use Rattle.model.specs.Sound.{topology_sound, channel_sound, channel_sound_by, log_sound, phase_sound, line_sound, sound_by}
+use Rattle.model.specs.Sound.{topology_sound, channel_sound, channel_sound_by, log_sound, phase_sound, line_sound}
+use Rattle.model.specs.Sound.{sound_by}
 use Rattle.model.specs.Sound.{sound}
 use Rattle.model.proofs.laws.Functions.{length_of}
 use Rattle.model.proofs.laws.ChannelLaws.{entries_count}

@@ -44,5 +44,6 @@ passes c =
 pub channels_spec : {M : Type 1} → statement M
 channels_spec =
     tie.close
-    (tie.spec invariant-loop decreases-loop loop-holds (λ c κs. omega arith) (λ c. search rules) decides (λ c. search rules)
+    (tie.spec invariant-loop decreases-loop loop-holds (λ c κs. omega arith) (λ c. search rules) decides
+    (λ c. search rules)
     (λ c. omega arith) (λ c. omega arith) loop-again passes)

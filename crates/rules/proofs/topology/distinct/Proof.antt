@@ -63,5 +63,6 @@ returns c = all_tested c.loop-c.invariant.0 (λ l. omega (arith, l))
 pub distinct_spec : {M : Type 1} → statement M
 distinct_spec =
     tie.close
-    (tie.spec invariant-loop decreases-loop loop-holds (λ c. omega arith) (λ c. omega arith) (λ c. omega arith) place-requires
+    (tie.spec invariant-loop decreases-loop loop-holds (λ c. omega arith) (λ c. omega arith)
+    (λ c. omega arith) place-requires
     in_table in_table (λ c. omega arith) (λ c. omega arith) loop-again returns)
