@@ -6,6 +6,8 @@
 // it.
 // Unless a case says otherwise it starts from the state that initialize leaves for the plan of document 01's listing:
 // two processes, channel 0 from 0 to 1 and channel 1 back. `send(1)`, `sent(2)`: on channel 1, and 2 places are left.
+#![tactic(auto)]
+
 mod expected;
 mod hand;
 mod kinds;

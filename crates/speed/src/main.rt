@@ -3,6 +3,8 @@
 // records; past its end all is 0. Printed is a checksum of each answer and of the last line, words, channels and store,
 // or of the store that another was carried into: 31 × sum + value, modulo 2^32. Where the plan is refused there is no
 // work, and 0 is printed.
+#![tactic(auto)]
+
 mod carries;
 mod input;
 mod reads;
