@@ -7,9 +7,6 @@ use Rattle.model.specs.declared.Topology.{Topology}
 use Rattle.model.specs.declared.Record.{Record}
 use Rattle.model.specs.declared.Record.TheVariants.{Call}
 use Rattle.model.specs.declared.Step.TheVariants.{Send}
-use Rattle.model.specs.declared.Listed.{Listed}
-use Rattle.model.specs.declared.CallList.{CallList}
-use Rattle.model.specs.Notation.{tabulate}
 use Rattle.model.specs.Outcome.{refused_with, room_said}
 use Rattle.model.specs.Layout.{store_cells}
 use Rattle.model.specs.Program.{full_budget}
@@ -20,16 +17,9 @@ use Rattle.model.specs.ProgramsAreRuns.{call_with}
 abbrev pub list_limit : ℕ
 list_limit = 256
 
--- what place i of a list holds; a place past the array reads as one fixed call
-abbrev pub unlisted : Listed
-unlisted = record { content = Call (Send 0 0) }
-
-abbrev pub call_at : CallList → ℕ → Record
-call_at list i = (get_or list.calls i unlisted).content
-
--- a list's calls: as many as its count says, whatever the count, so that a count over 256 shows
-unfoldable pub listed : CallList → List Record
-listed list = tabulate list.count (call_at list)
+-- what place i of a list holds; a place past its end reads as one fixed call
+abbrev pub call_at : List Record → ℕ → Record
+call_at list i = get_or list i (Call (Send 0 0))
 
 -- "run from setup with full current", "in a store of its own": from an initialize on a store of zeros, as `head` has it
 unfoldable pub replies : Topology → List Record → List Reply

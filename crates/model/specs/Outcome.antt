@@ -1,13 +1,9 @@
 -- What an answer says, in document 01's words and numbers, and what each case of the enums that the code answers with
 -- says. Definitions speak of what is said, and every public promise about such an enum goes through what its case says.
-use Rattle.std.specs.Prelude.{ℕ, List, [], ◌∷◌}
+use Rattle.std.specs.Prelude.{ℕ, List, [], ◌∷◌, Result, Ok, Err}
 use Rattle.std.proofs.Math.Option.{Option, none, some}
 use Rattle.model.specs.declared.Outcome.{Outcome}
 use Rattle.model.specs.declared.Outcome.TheVariants as outcome
-use Rattle.model.specs.declared.Start.{Start}
-use Rattle.model.specs.declared.Start.TheVariants as start
-use Rattle.model.specs.declared.Verdict.{Verdict}
-use Rattle.model.specs.declared.Verdict.TheVariants.{Pass, Refuse}
 use Rattle.model.specs.declared.Refusal.{Refusal}
 use Rattle.model.specs.declared.Refusal.TheVariants.{ProcessCount, ChannelCount, UnknownEnd, SelfChannel}
 use Rattle.model.specs.declared.Refusal.TheVariants.{DoubledChannel, ShortStore, Malformed, NoSuch, ChannelFull}
@@ -88,11 +84,7 @@ room_said (line k) = 0
 room_said (refused n) = 0
 room_said cut = 0
 
--- the number that a verdict, an initialize or a recover refuses with, if it does
-unfoldable pub refusal_of : Verdict → Option ℕ
-refusal_of Pass = none
-refusal_of (Refuse r) = some (refusal_number r)
-
-abbrev pub start_refusal : Start → Option ℕ
-start_refusal start.Ready = none
-start_refusal (start.Refused r) = some (refusal_number r)
+-- the number that a check, an initialize or a recover refuses with, if it does
+unfoldable pub refusal_of : {A : Type 0} → Result A Refusal → Option ℕ
+refusal_of (Ok x) = none
+refusal_of (Err r) = some (refusal_number r)

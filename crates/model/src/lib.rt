@@ -24,7 +24,7 @@ pub struct Topology {
 
 // Document 01's round: idle, copying (the physical phase, with the next process to checkpoint), marking (the
 // logical phase).
-#[derive(Clone, Copy)]
+#[derive(Clone, Copy, Debug, PartialEq, Eq)]
 pub enum Phase {
     Idle,
     Physical(u8),
@@ -38,7 +38,8 @@ pub struct Round {
     pub phase: Phase,
 }
 
-// What a channel holds: a message with the tag its sender had, or a marker (document 01's note).
+// What a channel holds: a message with the tag its sender had, or a marker (document 01's note). (No Option: a marker
+// is an entry as a message is, and the definitions' lists of entries name both.)
 #[derive(Clone, Copy)]
 pub enum Entry {
     Message { body: u32, tag: bool },
@@ -54,7 +55,8 @@ pub struct Places {
 }
 
 // A channel by value: its places, and how many are used. Places from count on are unused. (A state has its channels'
-// lengths in an array of their own, since every step looks through them.)
+// lengths in an array of their own, since every step looks through them. Arrays side by side and a count: memory is
+// fixed here, with no heap, and `entries` reads them so.)
 #[derive(Clone, Copy)]
 pub struct Channel {
     pub bodies: [u32; PLACES],
@@ -124,33 +126,21 @@ pub enum Step {
     Abort,
 }
 
-// A record's content: a step, or kind 9, the recover (document 01's restart).
+// A record's content: a step, or kind 9, the recover (document 01's restart). (No Option of a step: a recover is a call
+// as a step is, and the definitions' lists of calls name both.)
 #[derive(Clone, Copy)]
 pub enum Record {
     Call(Step),
     Recover,
 }
 
-// A list of calls (document 02's step list): place i is its i-th call, and a list is as long as its count says. Places
-// from count on are unused.
-#[derive(Clone, Copy)]
-pub struct Listed {
-    pub content: Record,
-}
-
-// "at most 256 steps, restarts included"
+// A list of calls (document 02's step list) is a slice of records. "at most 256 steps, restarts included"
 pub const LISTED: usize = 256;
 
-#[derive(Clone, Copy)]
-pub struct CallList {
-    pub calls: [Listed; LISTED],
-    pub count: u16,
-}
-
-// The refusals of documents 01 and 02, in the order of their numbers, 1 to 19.
-#[derive(Clone, Copy)]
+// The refusals of documents 01 and 02 under their numbers. What may be refused answers a Result with one of them.
+#[derive(Clone, Copy, Debug, PartialEq, Eq)]
 pub enum Refusal {
-    ProcessCount,
+    ProcessCount = 1,
     ChannelCount,
     UnknownEnd,
     SelfChannel,
@@ -169,13 +159,6 @@ pub enum Refusal {
     NothingRefused,
     LongList,
     UnknownLate,
-}
-
-// What checks say: everything passes, or the first refusal.
-#[derive(Clone, Copy)]
-pub enum Verdict {
-    Pass,
-    Refuse(Refusal),
 }
 
 // What a step answers: done; a message sent, with how many entries its channel can still hold; a message received
@@ -198,18 +181,5 @@ pub const FULL_BUDGET: u32 = u32::MAX;
 pub struct Answer {
     pub outcome: Outcome,
     pub made: u32,
-    pub state: State,
-}
-
-// What initialize and recover (document 01's setup and restart) answer.
-#[derive(Clone, Copy)]
-pub enum Start {
-    Ready,
-    Refused(Refusal),
-}
-
-#[derive(Clone, Copy)]
-pub struct Started {
-    pub start: Start,
     pub state: State,
 }
