@@ -7,7 +7,9 @@ use Rattle.model.specs.declared.Topology.{Topology}
 use Rattle.model.specs.Notation.{all_below, first_below}
 use Rattle.model.specs.Check.{accepts, first_refusal}
 use Rattle.model.specs.Topology.{sender, receiver, has_process, same_ends, channel_refusal, channels_refusal}
-use Rattle.model.specs.Topology.{late_refusal}
+use Rattle.model.specs.Topology.{late_refusal, size_refusal, topology_refusal}
+use Rattle.model.specs.Sound.{topology_sound}
+use Rattle.model.proofs.laws.TopologyLaws.{SizesFit, accepted_sizes}
 use Rattle.model.proofs.laws.Tests.{true_is_not_false, and_left, and_right}
 use Rattle.rules.specs.Ends.{joins_two, apart}
 
@@ -78,3 +80,13 @@ module _ (T : Topology) where
       ≡ ((all_below T.channels (joins_two T) && all_below T.channels (apart T)) && late_known)
   unfolding channels_refusal late_refusal first_refusal
   beyond_pass = both (channels_refusal T) (late_refusal T) ∙ rw (pass_all T T.channels, unless late_known)
+
+  -- 1 and 2 first
+  pub in_order : topology_sound T ≡ (accepts (size_refusal T.processes T.channels)
+      && ((all_below T.channels (joins_two T) && all_below T.channels (apart T)) && late_known))
+  unfolding topology_sound topology_refusal
+  in_order = both (size_refusal T.processes T.channels) _ ∙ rw beyond_pass
+
+  pub sound_sizes : topology_sound T ≡ true → SizesFit T.processes T.channels
+  unfolding topology_sound
+  sound_sizes e = accepted_sizes T (accepts_none (topology_refusal T) e)

@@ -2,6 +2,7 @@
 use Rattle.std.proofs.Common.{◌≡◌, ℕ, suc, ◌+◌, ◌*◌, ◌<◌, Bool, true, false, not, ◌&&◌, eqb, List, length, get_or, set}
 use Rattle.std.proofs.Common.{replicate, sym, refl, ap, ◌∙◌, add-one, arith, length-set, get_or-set_other}
 use Rattle.std.proofs.Common.{get_or-set_same, eq-eqb, ne_eqb}
+use Rattle.std.proofs.Math.Bool.{and-true}
 use lib.ListN.{get_or-replicate}
 use Rattle.model.specs.declared.Topology.{Topology}
 use Rattle.model.specs.Notation.{all_below}
@@ -32,10 +33,6 @@ seen_none T =
       free = λ f r lf lr. ap not
           (get_or-replicate (process_limit * process_limit) (place f r) false false (omega arith));
     }
-
-and_true : (a : Bool) → a ≡ (a && true)
-and_true true = refl
-and_true false = refl
 
 module _ {T : Topology} {c : ℕ} {seen : List Bool} (s : Seen T c seen)
     (from : sender T c < process_limit) (to : receiver T c < process_limit) where
@@ -78,7 +75,7 @@ module _ {T : Topology} {c : ℕ} {seen : List Bool} (s : Seen T c seen)
         go (other q) =
             ap not (get_or-set_other seen here (place f r) true false (λ k. q (sym k)))
             ∙ s.free f r lf lr
-            ∙ rw (joins_other q) (and_true below)
+            ∙ rw (joins_other q) (sym (and-true below))
 
   -- one channel more is in the table
   pub seen_next : Seen T (c + 1) (set seen here true)

@@ -1,5 +1,7 @@
 -- Laws that the proofs cite.
+pub mod Checks
 pub mod EndsPass
 pub mod EndsSeen
+pub mod Places
+pub mod Putting
 pub mod Room
-pub mod Testing

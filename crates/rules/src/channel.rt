@@ -1,7 +1,7 @@
 // A channel (document 01's wire) by value: its entries, first in first out, and how much room is left. What a place's
 // kind means is known here alone; `reading` fills the bodies of blank places, and `sound` looks at lengths. Open in a
 // channel that is made here are its unused places, and how a marker is spelled in its place.
-ghost use Rattle.std.specs.Prelude.{◌≡◌, ◌+◌, ◌<◌, false, [], ◌∷◌, ◌++◌, length, drop};
+ghost use Rattle.std.specs.Prelude.{◌≡◌, ◌==◌, ◌+◌, ◌<◌, false, [], ◌∷◌, ◌++◌, length, drop};
 ghost use Rattle.model.specs.Channel.{held, places_of, entry_of, entry_at, entries, bodies, messages};
 ghost use Rattle.model.specs.Channel.{room_left, no_room_for_message, no_room_for_marker};
 ghost use Rattle.model.specs.State.{no_places, empty_channel};
@@ -10,6 +10,7 @@ ghost use Rattle.rules.specs.Placing.{placed, pushed};
 use model::{Channel, Entry, Places};
 
 // The kinds of a place: a message with tag 0, one with tag 1, and a marker (document 01's note), as any other kind is.
+// (No enum: a State may have any number there, and Channel.entry_of gives each a meaning.)
 const PLAIN: u8 = 0;
 
 const TAGGED: u8 = 1;
@@ -19,12 +20,11 @@ const MARKER: u8 = 2;
 // How many entries a channel has room for, by the rules.
 pub const ROOM: u8 = 8;
 
-// How many places its arrays have, as a count; and the last of them.
-const PLACES: u8 = model::PLACES as u8;
-
+// The last place of its arrays.
 const LAST_PLACE: usize = model::PLACES - 1;
 
 // Places with nothing in them, and a channel with no entry.
+#[tactic(auto, unfolding(model::specs::State::no_places))]
 pub fn blank() -> Places
     ensures { result ≡ no_places }
 {
@@ -40,12 +40,12 @@ pub fn empty() -> Channel
     held(blank(), 0)
 }
 
-// The channel that places hold, of which so many are used; and a channel's places, and how many it uses.
+// The channel that places hold, of which so many are used; and a channel's places, and how many it uses. (`used` speaks
+// of what a State stores, `length` of the entries: their callers need the one or the other.)
 pub fn held(places: Places, count: u8) -> Channel
     ensures { result ≡ held places count }
 {
-    let bodies = places.bodies;
-    let kinds = places.kinds;
+    let Places { bodies, kinds } = places;
     Channel {
         bodies,
         kinds,
@@ -56,8 +56,11 @@ pub fn held(places: Places, count: u8) -> Channel
 pub fn places(c: Channel) -> Places
     ensures { result ≡ places_of c }
 {
-    let bodies = c.bodies;
-    let kinds = c.kinds;
+    let Channel {
+        bodies,
+        kinds,
+        count: _,
+    } = c;
     Places { bodies, kinds }
 }
 
@@ -68,6 +71,7 @@ pub fn used(c: Channel) -> u8
 }
 
 // What a place's kind and body mean.
+#[tactic(auto, unfolding(model::specs::Channel::entry_of))]
 fn entry_of(kind: u8, body: u32) -> Entry
     ensures { result ≡ entry_of kind body }
 {
@@ -82,14 +86,15 @@ fn entry_of(kind: u8, body: u32) -> Entry
 pub fn entry_at(c: Channel, i: u8) -> Entry
     ensures { result ≡ entry_at c i }
 {
-    if PLACES <= i {
-        return entry_of(PLAIN, 0);
-    }
     let at = i as usize;
-    entry_of(c.kinds[at], c.bodies[at])
+    entry_of(
+        c.kinds.get(at).copied().unwrap_or(PLAIN),
+        c.bodies.get(at).copied().unwrap_or(0),
+    )
 }
 
 // How many entries a channel holds.
+#[tactic(auto, using(model::proofs::laws::ChannelLaws::entries_count))]
 pub fn length(c: Channel) -> u8
     ensures { result ≡ length (entries c) }
 {
@@ -97,44 +102,51 @@ pub fn length(c: Channel) -> u8
 }
 
 // How many entries a channel can still hold.
+#[tactic(auto, using(model::proofs::laws::ChannelLaws::entries_count))]
 pub fn room(c: Channel) -> u8
     ensures { result ≡ room_left (entries c) }
 {
-    let held = length(c);
-    if ROOM <= held {
-        return 0;
-    }
-    ROOM - held
+    ROOM.saturating_sub(c.count)
 }
 
-// Refusal 9: whether there is no room for one more message, and whether there is none for a marker.
-pub fn no_room_for_message(c: Channel) -> bool
-    ensures { result ≡ no_room_for_message (entries c) }
-{
-    let left = room(c);
-    left == 0
-}
-
-pub fn no_room_for_marker(c: Channel) -> bool
-    ensures { result ≡ no_room_for_marker (entries c) }
+// Whether there is no room for one more entry, whatever it is.
+fn is_full(c: Channel) -> bool
+    ensures { result ≡ (room_left (entries c) == 0) }
 {
     room(c) == 0
 }
 
+// Refusal 9: whether there is no room for one more message, and whether there is none for a marker. (Two functions, as
+// no_room_for_message and no_room_for_marker are two definitions, which a later paper may set apart.)
+#[tactic(auto, unfolding(model::specs::Channel::no_room_for_message))]
+pub fn no_room_for_message(c: Channel) -> bool
+    ensures { result ≡ no_room_for_message (entries c) }
+{
+    is_full(c)
+}
+
+#[tactic(auto, unfolding(model::specs::Channel::no_room_for_marker))]
+pub fn no_room_for_marker(c: Channel) -> bool
+    ensures { result ≡ no_room_for_marker (entries c) }
+{
+    is_full(c)
+}
+
 // The channel with one place more in use, of this kind and body. One past the arrays can't be written to, and reads as
 // it always does.
+#[tactic(auto, using(crate::proofs::Putting::put_within, crate::proofs::Putting::put_past))]
 fn extend(c: Channel, kind: u8, body: u32) -> Channel
     requires { c.count < 255 }
     ensures { (entries result ≡ entries c ++ (placed c.count kind body ∷ [])) × (result.count ≡ c.count + 1) }
 {
+    let at = c.count as usize;
+    // (`..c`, and `..empty()` in pop, were measured to be slower.)
     let mut r = c;
     r.count = c.count + 1;
-    if PLACES <= c.count {
-        return r;
+    if at < model::PLACES {
+        r.kinds[at] = kind;
+        r.bodies[at] = body;
     }
-    let at = c.count as usize;
-    r.kinds[at] = kind;
-    r.bodies[at] = body;
     r
 }
 
@@ -142,17 +154,12 @@ fn extend(c: Channel, kind: u8, body: u32) -> Channel
 pub fn push(c: Channel, e: Entry) -> Channel
     ensures { entries result ≡ pushed (entries c) e }
 {
-    if PLACES <= c.count {
+    if LAST_PLACE < c.count as usize {
         return c;
     }
     match e {
-        Entry::Message { body, tag } => {
-            if tag {
-                extend(c, TAGGED, body)
-            } else {
-                extend(c, PLAIN, body)
-            }
-        }
+        Entry::Message { body, tag: true } => extend(c, TAGGED, body),
+        Entry::Message { body, tag: false } => extend(c, PLAIN, body),
         Entry::Marker => extend(c, MARKER, 0),
     }
 }
@@ -166,11 +173,9 @@ pub fn pop(c: Channel) -> Channel
     }
     let mut r = empty();
     r.count = c.count - 1;
-    let mut i: usize = 0;
-    while i < LAST_PLACE {
+    for i in 0..LAST_PLACE {
         r.kinds[i] = c.kinds[i + 1];
         r.bodies[i] = c.bodies[i + 1];
-        i += 1;
     }
     r
 }
@@ -179,14 +184,11 @@ pub fn pop(c: Channel) -> Channel
 pub fn plain(c: Channel) -> Channel
     ensures { entries result ≡ messages false (bodies (entries c)) }
 {
-    let entries = length(c);
     let mut r = empty();
-    let mut i: u8 = 0;
-    while i < entries {
+    for i in 0..c.count {
         if let Entry::Message { body, tag: _ } = entry_at(c, i) {
             r = extend(r, PLAIN, body);
         }
-        i += 1;
     }
     r
 }

@@ -5,7 +5,8 @@ ghost use Rattle.model.specs.State.{blank_topology, view_progress, view_counts, 
 
 use model::{CHANNELS, Counts, Flags, PROCESSES, Topology};
 
-// No process, no channel: what a refusal answers in the place of a plan.
+// No process, no channel: a topology of nothing.
+#[tactic(auto, unfolding(model::specs::State::blank_topology))]
 pub fn topology() -> Topology
     ensures { result ≡ blank_topology }
 {

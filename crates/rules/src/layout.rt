@@ -29,6 +29,7 @@ pub const MESSAGE_ENTRY_CELLS: usize = 2;
 pub const CHANNEL_ENTRY_CELLS: usize = 1;
 
 // The first cell of a line's slot.
+#[tactic(auto, using(crate::proofs::Places::slot_at))]
 fn slot(line: u32) -> usize
     ensures { result ≡ slot line }
 {
@@ -36,6 +37,7 @@ fn slot(line: u32) -> usize
 }
 
 // The cell of a process's physical checkpoint (document 01's copy), with which its record begins.
+#[tactic(auto, using(crate::proofs::Places::slot_at, crate::proofs::Places::physical_at))]
 pub fn physical_cell(line: u32, process: u8) -> usize
     ensures { result ≡ physical_cell line process }
 {
@@ -43,6 +45,7 @@ pub fn physical_cell(line: u32, process: u8) -> usize
 }
 
 // The cell of the count of a process's message log.
+#[tactic(auto, using(crate::proofs::Places::physical_at, crate::proofs::Places::message_count_at))]
 pub fn message_count_cell(line: u32, process: u8) -> usize
     ensures { result ≡ count_cell line (message_log process) }
 {
@@ -50,6 +53,7 @@ pub fn message_count_cell(line: u32, process: u8) -> usize
 }
 
 // The cell of the count of a channel's log, with which its record begins.
+#[tactic(auto, using(crate::proofs::Places::slot_at, crate::proofs::Places::channel_count_at))]
 pub fn channel_count_cell(line: u32, channel: u8) -> usize
     ensures { result ≡ count_cell line (channel_log channel) }
 {

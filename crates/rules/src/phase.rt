@@ -10,30 +10,18 @@ pub const LAST_LINE: u32 = 4294967295;
 pub fn is_idle(phase: Phase) -> bool
     ensures { result ≡ is_idle phase }
 {
-    match phase {
-        Phase::Idle => true,
-        Phase::Physical(_) => false,
-        Phase::Logical => false,
-    }
+    matches!(phase, Phase::Idle)
 }
 
 pub fn is_logical(phase: Phase) -> bool
     ensures { result ≡ is_logical phase }
 {
-    match phase {
-        Phase::Idle => false,
-        Phase::Physical(_) => false,
-        Phase::Logical => true,
-    }
+    matches!(phase, Phase::Logical)
 }
 
 // Whether the process is the next to have its physical checkpoint.
 pub fn is_next(phase: Phase, process: u8) -> bool
     ensures { result ≡ is_next phase process }
 {
-    match phase {
-        Phase::Idle => false,
-        Phase::Physical(next) => process == next,
-        Phase::Logical => false,
-    }
+    matches!(phase, Phase::Physical(next) if process == next)
 }

@@ -33,44 +33,35 @@ fn logs(needed: bool) -> Reaction
 // Whether a message received in the logical phase goes into its receiver's message log. logical: whether the receiver
 // has its logical checkpoint by then. An early one logs before that; a late one, anti-messages, from then until it is
 // saved.
+#[tactic(auto, unfolding(model::specs::Receive::in_message_log))]
 fn in_message_log(late: bool, logical: bool, saved: bool) -> bool
     ensures { result ≡ in_message_log late logical saved }
 {
-    if late {
-        return logical & !saved;
-    }
-    !logical
+    if late { logical & !saved } else { !logical }
 }
 
 // What an entry does to its receiver.
+#[tactic(auto, unfolding(crate::specs::Reacting::view_reaction, // what the code answers; what is defined:
+model::specs::Receive::reaction_to, model::specs::Receive::logs_only))]
 pub fn react(phase: Phase, r: Receiver, e: Entry) -> Reaction
     ensures { Reacts phase r e result }
 {
-    match e {
-        Entry::Message { body: _, tag } => match phase {
-            Phase::Idle => logs(false),
-            Phase::Physical(next) => logs((r.process < next) & !r.late),
-            Phase::Logical => {
-                let differs = tag != r.tag;
-                let message_log = in_message_log(r.late, r.logical | differs, r.saved);
-                Reaction {
-                    logical_first: !r.logical & differs,
-                    closes: false,
-                    channel_log: r.logical & differs,
-                    message_log,
-                }
+    match (phase, e) {
+        (Phase::Physical(next), Entry::Message { .. }) => logs((r.process < next) & !r.late),
+        (Phase::Logical, Entry::Message { body: _, tag }) => {
+            let differs = tag != r.tag;
+            Reaction {
+                logical_first: !r.logical & differs,
+                channel_log: r.logical & differs,
+                ..logs(in_message_log(r.late, r.logical | differs, r.saved))
             }
+        }
+        (Phase::Logical, Entry::Marker) => Reaction {
+            logical_first: !r.logical,
+            closes: true,
+            ..logs(false)
         },
-        Entry::Marker => match phase {
-            Phase::Idle => logs(false),
-            Phase::Physical(_) => logs(false),
-            Phase::Logical => Reaction {
-                logical_first: !r.logical,
-                closes: true,
-                channel_log: false,
-                message_log: false,
-            },
-        },
+        _ => logs(false),
     }
 }
 
@@ -95,6 +86,7 @@ pub fn receipt(channel: u8, e: Entry) -> Receipt
 }
 
 // What receiving it answers.
+#[tactic(auto, unfolding(model::specs::Step::received_outcome))]
 pub fn outcome(e: Entry) -> Outcome
     ensures { said_by result ≡ received_outcome e }
 {

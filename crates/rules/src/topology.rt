@@ -1,47 +1,43 @@
 // The checks of a topology (document 01's plan), refusals 1 to 5 and 19: first whether it passes, as fast as can be,
 // since every step asks that; and only where it doesn't, what refuses it.
 ghost use Rattle.std.specs.Prelude.{◌≡◌, ◌+◌, ◌*◌, ◌<◌, ◌≤◌, true};
-ghost use Rattle.std.proofs.Math.Option.{or_else};
 ghost use Rattle.model.specs.Notation.{all_below};
 ghost use Rattle.model.specs.Outcome.{refusal_of};
 ghost use Rattle.model.specs.Sound.{topology_sound};
 ghost use Rattle.rules.specs.Ends.{joins_two, apart};
 ghost use Rattle.model.specs.Topology.{process_limit, channel_limit};
-ghost use Rattle.model.specs.Topology.{size_refusal, channel_refusal, channels_refusal, late_refusal, topology_refusal};
+ghost use Rattle.model.specs.Topology.{size_refusal, channel_refusal, channels_refusal, topology_refusal};
 
-use crate::late;
-use model::{CHANNELS, PROCESSES, Refusal, Topology, Verdict};
+use crate::{below, late};
+use model::{CHANNELS, PROCESSES, Refusal, Topology};
 
 // How many pairs of processes there are.
 const PAIRS: usize = PROCESSES * PROCESSES;
 
 // Refusals 1 and 2: how many processes and channels there are.
-pub fn sizes(processes: u8, channels: u8) -> Verdict
+#[tactic(auto, using(crate::proofs::Checks::by_sizes), unfolding(model::specs::Outcome::refusal_of))]
+pub fn sizes(processes: u8, channels: u8) -> Result<(), Refusal>
     ensures { refusal_of result ≡ size_refusal processes channels }
 {
     if !((1 <= processes) & (processes as usize <= PROCESSES)) {
-        return Verdict::Refuse(Refusal::ProcessCount);
+        return Err(Refusal::ProcessCount);
     }
     if CHANNELS < channels as usize {
-        return Verdict::Refuse(Refusal::ChannelCount);
+        return Err(Refusal::ChannelCount);
     }
-    Verdict::Pass
+    Ok(())
 }
 
-// Whether every channel joins two different processes of the topology.
+// Whether every channel joins two different processes of the topology. (That there are no more channels than there may
+// be is asked of it, here and below: a topology is checked whatever its numbers are, so that its type can't say it.)
+#[tactic(auto, using(crate::proofs::Checks::by_ends))]
 fn joined(t: Topology) -> bool
     requires { t.channels ≤ channel_limit }
     ensures { result ≡ all_below t.channels (joins_two t) }
 {
-    let mut so = true;
-    let mut c: usize = 0;
-    while c < t.channels as usize {
-        let from = t.from[c];
-        let to = t.to[c];
-        so = so & (((from < t.processes) & (to < t.processes)) & (from != to));
-        c += 1;
-    }
-    so
+    below::all(t.channels, |c| {
+        (t.from[c] < t.processes) & (t.to[c] < t.processes) & (t.from[c] != t.to[c])
+    })
 }
 
 // Where the table of ends has the channels between two processes.
@@ -61,12 +57,10 @@ fn distinct(t: Topology) -> bool
 {
     let mut seen = [false; PAIRS];
     let mut so = true;
-    let mut c: usize = 0;
-    while c < t.channels as usize {
+    for c in 0..t.channels as usize {
         let at = place(t.from[c], t.to[c]);
         so = so & !seen[at];
         seen[at] = true;
-        c += 1;
     }
     so
 }
@@ -75,91 +69,63 @@ fn distinct(t: Topology) -> bool
 pub fn passes(t: Topology) -> bool
     ensures { result ≡ topology_sound t }
 {
-    let Verdict::Pass = sizes(t.processes, t.channels) else {
-        return false;
-    };
-    if !joined(t) {
-        return false;
-    }
-    distinct(t) & late::known(t.processes, t.late)
+    sizes(t.processes, t.channels).is_ok()
+        && joined(t)
+        && distinct(t) & late::known(t.processes, t.late)
 }
 
 // Whether no channel before channel c has its ends in its direction.
+#[tactic(auto, using(crate::proofs::Checks::by_pairs))]
 fn apart(t: Topology, c: u8) -> bool
     requires { c < channel_limit }
     ensures { result ≡ apart t c }
 {
-    let from = t.from[c as usize];
-    let to = t.to[c as usize];
-    let mut so = true;
-    let mut d: usize = 0;
-    while d < c as usize {
-        so = so & !((t.from[d] == from) & (t.to[d] == to));
-        d += 1;
-    }
-    so
+    let (from, to) = (t.from[c as usize], t.to[c as usize]);
+    below::all(c, |d| !((t.from[d] == from) & (t.to[d] == to)))
 }
 
 // Refusals 3 to 5 of one channel.
-fn channel(t: Topology, c: u8) -> Verdict
+#[tactic(auto, using(crate::proofs::Checks::by_channel), unfolding(model::specs::Outcome::refusal_of))]
+fn channel(t: Topology, c: u8) -> Result<(), Refusal>
     requires { c < channel_limit }
     ensures { refusal_of result ≡ channel_refusal t c }
 {
-    let from = t.from[c as usize];
-    let to = t.to[c as usize];
+    let (from, to) = (t.from[c as usize], t.to[c as usize]);
     if !((from < t.processes) & (to < t.processes)) {
-        return Verdict::Refuse(Refusal::UnknownEnd);
+        return Err(Refusal::UnknownEnd);
     }
     if from == to {
-        return Verdict::Refuse(Refusal::SelfChannel);
+        return Err(Refusal::SelfChannel);
     }
     if !apart(t, c) {
-        return Verdict::Refuse(Refusal::DoubledChannel);
+        return Err(Refusal::DoubledChannel);
     }
-    Verdict::Pass
+    Ok(())
 }
 
 // Refusals 3 to 5: the first channel that offends decides.
-fn channels(t: Topology) -> Verdict
+#[tactic(auto, unfolding(model::specs::Outcome::refusal_of, model::specs::Topology::channels_refusal))]
+fn channels(t: Topology) -> Result<(), Refusal>
     requires { t.channels ≤ channel_limit }
     ensures { refusal_of result ≡ channels_refusal t }
 {
-    let mut c: u8 = 0;
-    while c < t.channels {
-        if let Verdict::Refuse(r) = channel(t, c) {
-            return Verdict::Refuse(r);
-        }
-        c += 1;
+    for c in 0..t.channels {
+        channel(t, c)?;
     }
-    Verdict::Pass
-}
-
-// Refusals 3 to 5, then 19.
-fn beyond_sizes(t: Topology) -> Verdict
-    requires { t.channels ≤ channel_limit }
-    ensures { refusal_of result ≡ or_else (channels_refusal t) (late_refusal t) }
-{
-    match channels(t) {
-        Verdict::Pass => {
-            if late::known(t.processes, t.late) {
-                Verdict::Pass
-            } else {
-                Verdict::Refuse(Refusal::UnknownLate)
-            }
-        }
-        Verdict::Refuse(r) => Verdict::Refuse(r),
-    }
+    Ok(())
 }
 
 // Refusals 1 to 5, then 19, of any topology whatever.
-pub fn check(t: Topology) -> Verdict
+pub fn check(t: Topology) -> Result<(), Refusal>
     ensures { refusal_of result ≡ topology_refusal t }
 {
     if passes(t) {
-        return Verdict::Pass;
+        return Ok(());
     }
-    match sizes(t.processes, t.channels) {
-        Verdict::Pass => beyond_sizes(t),
-        Verdict::Refuse(r) => Verdict::Refuse(r),
+    sizes(t.processes, t.channels)?;
+    channels(t)?;
+    if !late::known(t.processes, t.late) {
+        return Err(Refusal::UnknownLate);
     }
+    Ok(())
 }
