@@ -8,7 +8,8 @@ use lib.ListN.{length}
 use lib.Dec.{ltb}
 use borrow.Author.Tests.{ltb-false}
 use Rattle.model.specs.declared.Topology.{Topology}
-use Rattle.model.specs.declared.Verdict.{Verdict}
+use Rattle.std.specs.Prelude.{Result}
+use Rattle.model.specs.declared.Refusal.{Refusal}
 use Rattle.model.specs.Outcome.{refusal_of}
 use Rattle.model.specs.Check.{Check, ◌gives◌, first_refusal}
 use Rattle.model.specs.Topology.{topology_refusal}
@@ -27,10 +28,10 @@ pub record Carriable (F G : Form) (T : Topology) (source target : List ℕ) : Ty
   pub readable : Readable F T source
   pub sized : Sized G T target
 
-pub carriable : (F G : Form) (T : Topology) (source target : List ℕ)
+pub carriable : {F G : Form} {T : Topology} {source target : List ℕ}
     → carry_refusal F G T source (length target) ≡ none → Carriable F G T source target
 unfolding carry_refusal
-carriable F G T source target e =
+carriable {F} {G} {T} {source} {target} e =
     let check : List Check = (ltb (length target) (store_cells G) gives 6) ∷ [] in
     let (accepted, long) = or_else_none (recover_refusal F T source) (first_refusal check) e in
     let known = readable F T source accepted in
@@ -51,7 +52,7 @@ unfolding carried_or
 carried_refusal none after before = refl
 carried_refusal (some n) after before = refl
 
-module _ (after before : List ℕ) (r : Verdict) {o : Option ℕ} (said : refusal_of r ≡ o) where
+module _ (after before : List ℕ) (r : Result (Unit {0}) Refusal) {o : Option ℕ} (said : refusal_of r ≡ o) where
   pub carries_done : o ≡ none → Carries (carried_or o after before) r after
   unfolding carried_or
   carries_done e = rw e (record { verdict = rw e at said; target = refl })

@@ -23,7 +23,7 @@ pub faithful : Faithful
 unfolding carry carried_or
 faithful F G T source target e =
     let passed : carry_refusal F G T source (length target) ≡ none = sym (carried_refusal _ _ _) ∙ e in
-    rw passed (alike F G T source target (carriable F G T source target passed))
+    rw passed (alike F G T source target (carriable passed))
 
 pub faithful_of_code : FaithfulOfCode
 faithful_of_code F G T source before after r kept e =

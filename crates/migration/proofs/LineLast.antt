@@ -64,7 +64,7 @@ module _ (F G : Form) (T : Topology) (source target : List ℕ) where
   unfolding carry carried_or
   whole e =
       let passed : carry_refusal F G T source (length target) ≡ none = sym (carried_refusal _ _ _) ∙ e in
-      rw passed (line_is F G T source target (carriable F G T source target passed))
+      rw passed (line_is F G T source target (carriable passed))
 
 pub line_last : LineLast
 line_last = record { halfway = halfway; whole = whole }

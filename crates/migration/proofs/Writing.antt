@@ -4,10 +4,22 @@ use mathlib.Core.Path.{◌≡◌, refl, sym, ap, ◌∙◌}
 use mathlib.Core.List.{List}
 use lib.ListN.{length}
 use native.Mathlib.Omega.{arith}
+use Rattle.model.specs.declared.Topology.{Topology}
 use Rattle.model.specs.Notation.{concat_below}
+use Rattle.model.specs.Form.{Form, channel_log, count_cell, logged}
+use Rattle.model.specs.Recover.{stored_line}
 use Rattle.model.specs.Write.{Write, write_all}
 use Rattle.model.proofs.laws.Lists.{concat_more}
 use Rattle.model.proofs.store.Writes.{length_write_all, write_all_append}
+use Rattle.migration.specs.Carry.{finished_word, process_writes, bodies_writes}
+
+-- the writes for a process and for a channel
+abbrev pub writes_process : Form → Form → Topology → List ℕ → ℕ → List Write
+writes_process F G T source p = process_writes G (stored_line source) p (finished_word F T source p)
+
+abbrev pub writes_channel : Form → Form → List ℕ → ℕ → List Write
+writes_channel F G source c =
+    let k : ℕ = stored_line source in bodies_writes (count_cell G k (channel_log c)) (logged F source k c)
 
 -- of the n lists of f the first i
 pub record Wrote (before : List ℕ) (f : ℕ → List Write) (n : ℕ) (after : List ℕ) (i : ℕ) : Type 0 where

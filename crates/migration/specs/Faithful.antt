@@ -1,9 +1,9 @@
 -- "A restart by the target's rules gives the words, wires and line number that the source's gives, there and back." Of
 -- any two forms, any source that isn't refused, and whatever the target held before.
-use Rattle.std.specs.Prelude.{ℕ, ◌≤◌, ◌≡◌, List, length}
+use Rattle.std.specs.Prelude.{ℕ, ◌≤◌, ◌≡◌, List, length, Result}
 use Rattle.std.proofs.Math.Option.{none}
 use Rattle.model.specs.declared.Topology.{Topology}
-use Rattle.model.specs.declared.Verdict.{Verdict}
+use Rattle.model.specs.declared.Refusal.{Refusal}
 use Rattle.model.specs.Outcome.{refusal_of}
 use Rattle.model.specs.Form.{Form, store_cells}
 use Rattle.model.specs.Recover.{recover}
@@ -25,7 +25,7 @@ Faithful =
 -- the same of the code: of whatever keeps the promise of `upgrade` or `downgrade` and answers no refusal
 abbrev pub FaithfulOfCode : Type 0
 FaithfulOfCode =
-    (F G : Form) (T : Topology) (source before after : List ℕ) (r : Verdict)
+    (F G : Form) (T : Topology) (source before after : List ℕ) (r : Result (Unit {0}) Refusal)
     → Carries (carry F G T source before) r after → refusal_of r ≡ none → Alike F G T source after
 
 -- and back, into a third slice

@@ -1,15 +1,14 @@
--- A log of a store is whole or isn't, by its two tests; and every planned log of a store that isn't refused is.
-use Rattle.std.proofs.Common.{◌≡◌, ℕ, ◌+◌, ◌*◌, ◌<◌, ◌≤◌, Bool, true, false, ltb, List, length, refl, ◌∙◌}
-use Rattle.std.proofs.Common.{arith, le-ltb, lt-ltb, le-leb}
+-- Every planned log of a store that isn't refused is.
+use Rattle.std.proofs.Common.{◌≡◌, ℕ, ◌+◌, ◌*◌, ◌<◌, ◌≤◌, Bool, true, false, List, length, refl, ◌∙◌}
+use Rattle.std.proofs.Common.{arith, lt-ltb, le-leb}
 use mathlib.Core.Option.{none}
-use borrow.Author.Tests.{lt-leb}
 use Rattle.model.specs.declared.Topology.{Topology}
 use Rattle.model.specs.declared.Entry.{Entry}
 use Rattle.model.specs.Topology.{process_limit, channel_limit, is_late}
 use Rattle.model.specs.Channel.{messages}
 use Rattle.model.specs.Form.{Form, Log, message_log, channel_log, cell, places, entry_cells, count_cell, logged}
 use Rattle.model.specs.Recover.{stored_line, recover_refusal, restored}
-use Rattle.model.proofs.laws.Tests.{and_both, and_false}
+use Rattle.model.proofs.laws.Tests.{and_both}
 use Rattle.model.proofs.laws.TopologyLaws.{Planned}
 use Rattle.model.proofs.store.Sizes.{Sized}
 use Rattle.model.proofs.store.Addresses.{in_store, log_within}
@@ -24,20 +23,6 @@ abbrev last : Form → List ℕ → Log → ℕ
 last F st log = count F st log + entry_cells F log * places log
 
 module _ (F : Form) (st : List ℕ) (log : Log) where
-  pub none_such : possible log ≡ false → whole F st log ≡ false
-  unfolding whole
-  none_such h = rw h
-
-  pub beyond : length st ≤ last F st log → whole F st log ≡ false
-  unfolding whole
-  beyond h = rw (le-ltb (last F st log) (length st) h) (and_false (possible log))
-
-  pub over : places log < cell st (count F st log) → whole F st log ≡ false
-  unfolding whole
-  over h =
-      rw (lt-leb (cell st (count F st log)) (places log) h, and_false (ltb (last F st log) (length st)))
-      (and_false (possible log))
-
   pub within : possible log ≡ true → last F st log < length st → cell st (count F st log) ≤ places log
       → whole F st log ≡ true
   unfolding whole

@@ -1,7 +1,7 @@
 -- Which form the code's stands for, and what is read of a store.
 use Rattle.std.specs.Prelude.{◌≡◌, ℕ, ◌+◌, ◌*◌, ◌<◌, ◌≤◌, Bool, false, cond, ◌&&◌, ltb}
 use Rattle.std.specs.Prelude.{List, [], ◌∷◌, map, length, nat_le, nat_lt}
-use Rattle.std.proofs.Math.Option.{Option, or_else}
+use Rattle.std.proofs.Math.Option.{Option}
 use Rattle.model.specs.declared.Entry.{Entry}
 use Rattle.model.specs.declared.Receipt.{Receipt}
 use Rattle.model.specs.Check.{◌gives◌, first_refusal}
@@ -25,9 +25,9 @@ pub record Small (n r : ℕ) : Type 0 where
   pub is : r ≡ n
   pub low : r < 65536
 
--- the refusal found before, or 6 where so many cells are fewer than the form's
-abbrev pub length_refusal : Option ℕ → model.Form → ℕ → Option ℕ
-length_refusal found F cells = or_else found (first_refusal ((ltb cells (model.store_cells F) gives 6) ∷ []))
+-- 6, where so many cells are fewer than the form's
+abbrev pub length_refusal : model.Form → ℕ → Option ℕ
+length_refusal F cells = first_refusal ((ltb cells (model.store_cells F) gives 6) ∷ [])
 
 -- whether there can be such a log: a plan has at most 16 processes and 64 channels
 abbrev pub possible : Log → Bool

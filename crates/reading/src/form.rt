@@ -25,60 +25,66 @@ const OLD_PROCESS_CELLS: usize = 66;
 // Where in a slot of the old form the channels' records start.
 const OLD_CHANNELS_START: usize = 1056;
 
-// How many cells an entry of a message log has, the record of a process, and the store.
-pub fn message_cells(form: Form) -> usize
-    ensures { result ≡ (form_of form).message_cells }
-{
-    match form {
-        Form::Old => 1,
-        Form::Present => layout::MESSAGE_ENTRY_CELLS,
-    }
-}
-
-pub fn process_cells(form: Form) -> usize
-    ensures { Small (process_cells (form_of form)) result }
-{
-    match form {
-        Form::Old => OLD_PROCESS_CELLS,
-        Form::Present => layout::PROCESS_CELLS,
-    }
-}
-
-pub fn store_cells(form: Form) -> usize
-    ensures { result ≡ store_cells (form_of form) }
-{
-    match form {
-        Form::Old => OLD_STORE_CELLS,
-        Form::Present => layout::STORE_CELLS,
-    }
-}
-
-// The first cell of a line's slot, in the old form.
+// The first cell of a line's slot, in the old form. (rules::layout has the present form's, of which the engine asks on
+// its way through each step: there the numbers stay constants, so that each form keeps its own sum below.)
+#[tactic(auto, unfolding(model::specs::Form::slot))]
 fn old_slot(line: u32) -> usize
     ensures { result ≡ slot old line }
 {
     1 + OLD_SLOT_CELLS * ((line % 2) as usize)
 }
 
-// The cell of a process's physical checkpoint. The count of its message log is in the next one.
-pub fn physical_cell(form: Form, line: u32, process: u8) -> usize
-    ensures { Small (physical_cell (form_of form) line process) result }
-{
-    match form {
-        Form::Old => old_slot(line) + OLD_PROCESS_CELLS * (process as usize),
-        Form::Present => layout::physical_cell(line, process),
+impl Form {
+    // How many cells an entry of a message log has, the record of a process, and the store.
+    pub fn message_cells(self) -> usize
+        ensures { Small (form_of self).message_cells result }
+    {
+        match self {
+            Form::Old => 1,
+            Form::Present => layout::MESSAGE_ENTRY_CELLS,
+        }
     }
-}
 
-// The cell of the count of a channel's log.
-pub fn channel_count_cell(form: Form, line: u32, channel: u8) -> usize
-    ensures { Small (count_cell (form_of form) line (channel_log channel)) result }
-{
-    match form {
-        Form::Old => old_slot(line)
-            + OLD_CHANNELS_START
-            + layout::CHANNEL_CELLS * (channel as usize),
-        Form::Present => layout::channel_count_cell(line, channel),
+    pub fn process_cells(self) -> usize
+        ensures { Small (process_cells (form_of self)) result }
+    {
+        match self {
+            Form::Old => OLD_PROCESS_CELLS,
+            Form::Present => layout::PROCESS_CELLS,
+        }
+    }
+
+    pub fn store_cells(self) -> usize
+        ensures { result ≡ store_cells (form_of self) }
+    {
+        match self {
+            Form::Old => OLD_STORE_CELLS,
+            Form::Present => layout::STORE_CELLS,
+        }
+    }
+
+    // The cell of a process's physical checkpoint. The count of its message log is in the next one.
+    #[tactic(auto, unfolding(model::specs::Form::slot, model::specs::Form::process_record, model::specs::Form::physical_cell))]
+    pub fn physical_cell(self, line: u32, process: u8) -> usize
+        ensures { Small (physical_cell (form_of self) line process) result }
+    {
+        match self {
+            Form::Old => old_slot(line) + OLD_PROCESS_CELLS * (process as usize),
+            Form::Present => layout::physical_cell(line, process),
+        }
+    }
+
+    // The cell of the count of a channel's log.
+    #[tactic(auto, unfolding(model::specs::Form::slot, model::specs::Form::channel_record, model::specs::Form::count_cell))]
+    pub fn channel_count_cell(self, line: u32, channel: u8) -> usize
+        ensures { Small (count_cell (form_of self) line (channel_log channel)) result }
+    {
+        match self {
+            Form::Old => old_slot(line)
+                + OLD_CHANNELS_START
+                + layout::CHANNEL_CELLS * (channel as usize),
+            Form::Present => layout::channel_count_cell(line, channel),
+        }
     }
 }
 
@@ -86,5 +92,5 @@ pub fn channel_count_cell(form: Form, line: u32, channel: u8) -> usize
 pub fn old_enter(word: u32, receipt: Receipt) -> u32
     ensures { result ≡ old_enter word receipt }
 {
-    std::num::wrapping_add_u32(word::product(word), receipt.body)
+    word::product(word).wrapping_add(receipt.body)
 }

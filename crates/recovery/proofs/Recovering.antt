@@ -5,17 +5,19 @@ use mathlib.Core.Path.{◌≡◌, refl, ap, ap₂}
 use mathlib.Core.Bool.{false}
 use mathlib.Core.List.{List, []}
 use mathlib.Core.Option.{Option, none, some}
+use Rattle.std.specs.Prelude.{Result, Ok, Err}
 use lib.ListN.{get_or, replicate}
 use Rattle.model.specs.declared.Places.{Places}
 use Rattle.model.specs.declared.Entry.{Entry}
-use Rattle.model.specs.declared.Started.{Started}
+use Rattle.model.specs.declared.State.{State}
+use Rattle.model.specs.declared.Refusal.{Refusal}
 use Rattle.model.specs.declared.Topology.{Topology}
 use Rattle.model.specs.Notation.{tabulate}
 use Rattle.model.specs.Topology.{process_limit, channel_limit, has_process, has_channel, is_late}
 use Rattle.model.specs.Channel.{held, entries, messages}
 use Rattle.model.specs.Layout.{logged}
-use Rattle.model.specs.State.{GlobalState, view, idle_state, blank_state, no_places, entries_in}
-use Rattle.model.specs.Outcome.{start_refusal}
+use Rattle.model.specs.State.{GlobalState, view, idle_state, no_places, entries_in}
+use Rattle.model.specs.Outcome.{refusal_of}
 use Rattle.model.specs.Start.{startup_or, stored_line, restored}
 use Rattle.model.specs.Start.{recovered_word, recovered_channel}
 use Rattle.model.specs.Recover as recovery
@@ -23,16 +25,16 @@ use Rattle.model.proofs.laws.Functions.{seen_replicate, filled_below}
 use Rattle.recovery.specs.Starts.{Starts}
 
 -- the two ways in which initialize and recover answer
-module _ (s : GlobalState) (after before : List ℕ) (r : Started) where
-  pub starts_ready : {o : Option ℕ} → o ≡ none → start_refusal r.start ≡ none → view r.state ≡ s
-      → Starts (startup_or o s after before) r after
+module _ (s : GlobalState) (after before : List ℕ) {o : Option ℕ} where
+  pub starts_ready : {r : State} → o ≡ none → view r ≡ s → Starts (startup_or o s after before) (Ok r) after
   unfolding startup_or
-  starts_ready e a v = rw e (record { start = a; state = v; store = refl })
+  starts_ready e v = rw e (record { start = refl; state = v; store = refl })
 
-  pub starts_refused : {o : Option ℕ} (n : ℕ) → o ≡ some n → start_refusal r.start ≡ some n
-      → view r.state ≡ blank_state → Starts (startup_or o s after before) r before
-  unfolding startup_or
-  starts_refused n e a v = rw e (record { start = a; state = v; store = refl })
+  pub starts_refused : {n : ℕ} (r : Result State Refusal) → o ≡ some n → refusal_of r ≡ some n
+      → Starts (startup_or o s after before) r before
+  unfolding startup_or refusal_of
+  starts_refused (Ok x) e q = absurd (cc q)
+  starts_refused (Err x) e q = rw e (record { start = q; state = refl; store = refl })
 
 -- arrays of empty channels and of 0
 pub no_entries : (places : List Places)

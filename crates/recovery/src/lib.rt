@@ -4,4 +4,4 @@
 
 mod start;
 
-pub use start::{admit, initial, recover, refused};
+pub use start::{admit, initial, recover};

@@ -1,19 +1,18 @@
-// Recover, document 01's restart; and what initialize, its setup, has in common with it: refusals 1 to 5, 19
-// and 6, the first state, and how a refusal is answered.
+// Recover, document 01's restart; and what initialize, its setup, has in common with it: refusals 1 to 5, 19 and 6,
+// and the first state.
 ghost use Rattle.std.specs.Prelude.{◌≡◌, []};
-ghost use Rattle.std.proofs.Math.Option.{none, some};
-ghost use Rattle.model.specs.Outcome.{refusal_number, refusal_of, start_refusal};
-ghost use Rattle.model.specs.State.{view, idle_state, blank_state};
+ghost use Rattle.std.proofs.Math.Option.{none};
+ghost use Rattle.model.specs.Outcome.{refusal_of};
+ghost use Rattle.model.specs.State.{view, idle_state};
 ghost use Rattle.model.specs.Start.{initialize_refusal, recover, recover_refusal, recovered_word, recovered_channel};
 ghost use Rattle.recovery.specs.Starts.{Starts, words_seen, channels_seen};
 
-use model::{
-    CHANNELS, PROCESSES, Phase, Places, Refusal, Round, Start, Started, State, Topology, Verdict,
-};
+use model::{CHANNELS, PROCESSES, Phase, Places, Refusal, Round, State, Topology};
 use reading::form::Form;
 use rules::{channel, fresh, late};
 
-// The channels of a state, filled: their places, and how many of each are used.
+// The channels of a state, filled: their places, and how many of each are used, in two arrays as State has them, since
+// every step looks through the lengths.
 #[derive(Clone, Copy)]
 struct Filled {
     places: [Places; CHANNELS],
@@ -24,23 +23,19 @@ struct Filled {
 fn idle(topology: Topology, line: u32, words: [u32; PROCESSES], filled: Filled) -> State
     ensures { view result ≡ idle_state topology line (words_seen words) (channels_seen filled) }
 {
-    let round = Round {
-        line,
-        phase: Phase::Idle,
-    };
-    let places = filled.places;
-    let lengths = filled.lengths;
-    let flags = fresh::flags();
-    let counts = fresh::counts();
+    let Filled { places, lengths } = filled;
     State {
         topology,
-        round,
+        round: Round {
+            line,
+            phase: Phase::Idle,
+        },
         words,
         tags: [false; PROCESSES],
         places,
         lengths,
-        flags,
-        counts,
+        flags: fresh::flags(),
+        counts: fresh::counts(),
     }
 }
 
@@ -48,27 +43,15 @@ fn idle(topology: Topology, line: u32, words: [u32; PROCESSES], filled: Filled) 
 pub fn initial(topology: Topology) -> State
     ensures { view result ≡ idle_state topology 0 (λ p. 0) (λ c. []) }
 {
-    let blank = channel::blank();
     let filled = Filled {
-        places: [blank; CHANNELS],
+        places: [channel::blank(); CHANNELS],
         lengths: [0; CHANNELS],
     };
     idle(topology, 0, [0; PROCESSES], filled)
 }
 
-// A refusal, with the blank state: no process, no channel.
-pub fn refused(refusal: Refusal) -> Started
-    ensures { (start_refusal result.start ≡ some (refusal_number refusal)) × (view result.state ≡ blank_state) }
-{
-    let state = initial(fresh::topology());
-    Started {
-        start: Start::Refused(refusal),
-        state,
-    }
-}
-
 // Refusals 1 to 5 and 19, then 6.
-pub fn admit(topology: Topology, cells: usize) -> Verdict
+pub fn admit(topology: Topology, cells: usize) -> Result<(), Refusal>
     ensures { refusal_of result ≡ initialize_refusal topology cells }
 {
     reading::admit_cells(topology, Form::Present, cells)
@@ -79,14 +62,12 @@ fn words(topology: Topology, store: &[u32]) -> [u32; PROCESSES]
     requires { recover_refusal topology store.now ≡ none }
     ensures { words_seen result ≡ recovered_word topology store.now }
 {
-    let mut r = [0; PROCESSES];
-    let mut p: u8 = 0;
-    while p < topology.processes {
+    let mut words = [0; PROCESSES];
+    for p in 0..topology.processes {
         let late = late::is_late(topology.late, p);
-        r[p as usize] = reading::word(Form::Present, store, p, late);
-        p += 1;
+        words[p as usize] = reading::word(Form::Present, store, p, late);
     }
-    r
+    words
 }
 
 // The channels, filled from their logs. No place past a channel's length is seen, so that the array isn't cleared: it
@@ -98,30 +79,20 @@ fn channels(topology: Topology, store: &[u32]) -> Filled
     let first = channel::places(reading::channel(Form::Present, store, 0));
     let mut places = [first; CHANNELS];
     let mut lengths = [0; CHANNELS];
-    let mut c: u8 = 0;
-    while c < topology.channels {
+    for c in 0..topology.channels {
         let held = reading::channel(Form::Present, store, c);
         places[c as usize] = channel::places(held);
         lengths[c as usize] = channel::used(held);
-        c += 1;
     }
     Filled { places, lengths }
 }
 
 // Document 01's restart: it only reads. Of any topology and any store.
-pub fn recover(topology: Topology, store: &[u32]) -> Started
+pub fn recover(topology: Topology, store: &[u32]) -> Result<State, Refusal>
     ensures { Starts (recover topology store.now) result store.now }
 {
-    match reading::admit_store(topology, Form::Present, store) {
-        Verdict::Pass => {
-            let words = words(topology, store);
-            let filled = channels(topology, store);
-            let state = idle(topology, reading::line(store), words, filled);
-            Started {
-                start: Start::Ready,
-                state,
-            }
-        }
-        Verdict::Refuse(r) => refused(r),
-    }
+    reading::admit_store(topology, Form::Present, store)?;
+    let words = words(topology, store);
+    let filled = channels(topology, store);
+    Ok(idle(topology, reading::line(store), words, filled))
 }
