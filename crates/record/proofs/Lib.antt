@@ -1,5 +1,4 @@
 -- Laws that the proofs of several functions cite.
-pub mod FieldLaws
 pub mod KindLaws
 pub mod ParseLaws
 pub mod ReadsBack

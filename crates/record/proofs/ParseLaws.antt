@@ -1,104 +1,102 @@
--- Laws of a whole reading: its start by the bit map, its fields one after the other, its end by the table of kinds.
-use Prim.Native.Nat.{ℕ, ◌/◌, ◌%◌, ◌≤◌, ◌<◌}
-use mathlib.Core.Path.{◌≡◌, refl, subst, ◌∙◌}
-use mathlib.Core.Bool.{Bool, true, false}
-use mathlib.Core.List.{List, [], ◌∷◌}
-use mathlib.Core.Option.{Option, none, some}
-use lib.ListN.{length, get_or, drop}
-use lib.Dec.{ltb}
-use borrow.Author.Tests.{eq-eqb, ne_eqb}
-use native.Mathlib.Omega.{arith}
+-- Laws of a whole reading: its start by the bit map, and its fields one after the other.
+use Rattle.std.proofs.Common.{◌≡◌, ℕ, ◌≤◌, ◌<◌, Bool, true, false, List, [], ◌∷◌, length, get_or, drop}
+use Rattle.std.proofs.Common.{slice_range, refl, sym, ◌∙◌, length-drop, arith}
+use Rattle.std.proofs.Math.Seq.{take_all}
+use Rattle.std.proofs.Math.Option.{none, some}
 use Rattle.model.specs.declared.Record.{Record}
-use Rattle.model.specs.Record as model
-use Rattle.model.specs.Record.{and_then, stands, good_map, fields_after, read_fields, with_rest}
-use Rattle.model.specs.Record.{read_field, read_byte, read_body}
-use Rattle.record.specs.declared.field.Field.{Field}
-use Rattle.record.specs.declared.field.Field.TheVariants.{Value, Broken}
-use Rattle.record.specs.Field.{reading_in, Fit, Within, Reads}
-use Rattle.record.specs.declared.parse.Parsed.{Parsed}
-use Rattle.record.specs.declared.RecordRead.{RecordRead}
-use Rattle.record.specs.declared.RecordRead.TheVariants.{Read, Refused}
-use Rattle.record.specs.RecordRead.{record_said, record_in, remaining}
-use Rattle.record.specs.Parse.{Parses, unread, whole_of}
-use Rattle.record.specs.Kind.{fields, decided}
+use Rattle.model.specs.Record.{Reading, and_then, good_map, stands, read_field, read_byte, read_body, fields_after}
+use Rattle.model.specs.Record.{read_fields, read_record, record_of, with_rest}
+use Rattle.record.specs.Kind.{fields}
 
--- bytes that don't read
-pub unread_parses : {reading : model.Reading Record} {bytes : List ℕ} {p : Parsed} → reading ≡ none → p ≡ unread
-    → Parses reading bytes p
-unfolding record_in remaining
-unread_parses e q = record { answer = rw (e, q); rest = rw (e, q); within = rw q (omega arith) }
-
--- the end of a reading
-pub whole_parses : {bytes : List ℕ} (x : RecordRead) (o : Option Record) (next : ℕ) → record_said x ≡ decided o
-    → next ≤ length bytes → Parses (with_rest o (drop next bytes)) bytes (whole_of x next)
-unfolding record_in remaining with_rest whole_of
-whole_parses (Read r) none next e h = unread_parses refl (cc)
-whole_parses (Read r) (some y) next e h = record { answer = e; rest = refl; within = h }
-whole_parses (Refused x) none next e h = unread_parses refl refl
-whole_parses (Refused x) (some y) next e h = unread_parses (cc) refl
-
--- the start of a reading: fewer than two bytes, a bad bit map, a good one
-pub too_short : (bytes : List ℕ) → length bytes < 2 → read_fields bytes ≡ none
-unfolding read_fields
+-- fewer than two bytes, or a bad bit map
+pub too_short : (bytes : List ℕ) → length bytes < 2 → read_record bytes ≡ none
+unfolding read_record read_fields and_then
 too_short [] h = refl
 too_short (m ∷ []) h = refl
 too_short (m ∷ kind ∷ bytes) h = absurd (omega arith)
 
-pub odd : (m : ℕ) → m % 2 ≡ 1 → good_map m ≡ ltb m 16
-unfolding good_map stands
-odd m e = rw (eq-eqb (m / 1 % 2) 1 (omega arith))
-
-pub even : (m : ℕ) → (m % 2 ≡ 1 → ⊥) → good_map m ≡ false
-unfolding good_map stands
-even m n = rw (ne_eqb (m / 1 % 2) 1 (λ e. n (omega arith)))
-
-pub bad_map : (bytes : List ℕ) → good_map (get_or bytes 0 0) ≡ false → read_fields bytes ≡ none
-unfolding read_fields
+pub bad_map : (bytes : List ℕ) → good_map (get_or bytes 0 0) ≡ false → read_record bytes ≡ none
+unfolding read_record read_fields and_then
 bad_map [] e = refl
 bad_map (m ∷ []) e = refl
 bad_map (m ∷ kind ∷ bytes) e = rw e
 
-pub good_map_lem : (bytes : List ℕ) → 2 ≤ length bytes → good_map (get_or bytes 0 0) ≡ true
-    → read_fields bytes ≡ fields_after (get_or bytes 0 0) (get_or bytes 1 0) (drop 2 bytes)
-unfolding read_fields
-good_map_lem [] h e = absurd (omega arith)
-good_map_lem (m ∷ []) h e = absurd (omega arith)
-good_map_lem (m ∷ kind ∷ bytes) h e = rw e
+after_both : {A B C : Type 0} (x : Reading A) (f : A → List ℕ → Reading B) (g : B → List ℕ → Reading C)
+    → and_then (and_then x f) g ≡ and_then x λ a rest. and_then (f a rest) g
+unfolding and_then
+after_both none f g = refl
+after_both (some r) f g = refl
+
+-- what is read after a good map and the kind: one field after the other, and then the kind's row
+abbrev pub row_after : ℕ → ℕ → List ℕ → Reading Record
+row_after m kind bytes =
+    and_then (read_field (stands 2 m) read_byte bytes) λ p bytes₁.
+    and_then (read_field (stands 4 m) read_byte bytes₁) λ c bytes₂.
+    and_then (read_field (stands 8 m) read_body bytes₂) λ b bytes₃.
+    with_rest (record_of (fields kind p c b)) bytes₃
+
+one_by_one : (m kind : ℕ) (bytes : List ℕ)
+    → and_then (fields_after m kind bytes) (λ f rest. with_rest (record_of f) rest) ≡ row_after m kind bytes
+unfolding fields_after and_then
+one_by_one m kind bytes = simp after_both
+
+pub good_map_read : (bytes : List ℕ) → 2 ≤ length bytes → good_map (get_or bytes 0 0) ≡ true
+    → read_record bytes ≡ row_after (get_or bytes 0 0) (get_or bytes 1 0) (drop 2 bytes)
+unfolding read_record read_fields
+good_map_read [] h e = absurd (omega arith)
+good_map_read (m ∷ []) h e = absurd (omega arith)
+good_map_read (m ∷ kind ∷ bytes) h e = rw e (one_by_one m kind bytes)
 
 -- a field, and what is read after it
-module _ {read : List ℕ → model.Reading ℕ} {present : Bool} {bytes : List ℕ} {at limit : ℕ} {r : Field}
-    (h : Reads read present bytes at limit r) where
-  broken_then : {A : Type 0} (f : ℕ → List ℕ → model.Reading A) → r ≡ Broken
-      → and_then (read_field present read (drop at bytes)) f ≡ none
-  unfolding reading_in and_then
-  broken_then f q = rw (← h.field, q)
+nothing_then : {A B : Type 0} {x : Reading A} (f : A → List ℕ → Reading B) → none ≡ x → none ≡ and_then x f
+unfolding and_then
+nothing_then f e = rw (← e)
 
-  value_then : {A : Type 0} {value next : ℕ} (f : ℕ → List ℕ → model.Reading A) → r ≡ Value value next
-      → and_then (read_field present read (drop at bytes)) f ≡ f value (drop next bytes)
-  unfolding reading_in and_then
-  value_then f q = rw (← h.field, q)
+field_then : {A B : Type 0} {x : Reading A} {a : A} {rest : List ℕ} (f : A → List ℕ → Reading B) → some (a, rest) ≡ x
+    → f a rest ≡ and_then x f
+unfolding and_then
+field_then f e = rw (← e)
 
-  pub value_within : {value next : ℕ} → r ≡ Value value next → Fit bytes limit value next
-  value_within q = subst (Within bytes limit) q h.within
+-- the three fields, one after the other: the first that doesn't read, or all, and then the kind's row
+module _ (bytes : List ℕ) (long : 2 ≤ length bytes) {good : Bool} (tested : good ≡ good_map (get_or bytes 0 0))
+    (passed : good ≡ true) where
+  abbrev map : ℕ
+  map = get_or bytes 0 0
 
--- the three fields, one after the other: the first that doesn't read, or all
-module _ (m kind : ℕ) {bytes : List ℕ} {r₁ : Field} (h₁ : Reads read_byte (stands 2 m) bytes 2 256 r₁) where
-  pub no_process : r₁ ≡ Broken → fields_after m kind (drop 2 bytes) ≡ none
-  unfolding fields_after
-  no_process q = broken_then h₁ _ q
+  abbrev kind : ℕ
+  kind = get_or bytes 1 0
 
-  module _ {p a : ℕ} {r₂ : Field} (q₁ : r₁ ≡ Value p a) (h₂ : Reads read_byte (stands 4 m) bytes a 256 r₂) where
-    pub no_channel : r₂ ≡ Broken → fields_after m kind (drop 2 bytes) ≡ none
-    unfolding fields_after
-    no_channel q = value_then h₁ _ q₁ ∙ broken_then h₂ _ q
+  -- the bytes after the map and the kind, as a part
+  abbrev after : List ℕ
+  after = slice_range bytes 2 (length bytes)
 
-    module _ {c b : ℕ} {r₃ : Field} (q₂ : r₂ ≡ Value c b)
-        (h₃ : Reads read_body (stands 8 m) bytes b 4294967296 r₃) where
-      pub no_body : r₃ ≡ Broken → fields_after m kind (drop 2 bytes) ≡ none
-      unfolding fields_after
-      no_body q = value_then h₁ _ q₁ ∙ (value_then h₂ _ q₂ ∙ broken_then h₃ _ q)
+  start : row_after map kind after ≡ read_record bytes
+  start =
+      let all : after ≡ drop 2 bytes = take_all _ (drop 2 bytes) (rw (length-drop _ _) (omega arith)) in
+      rw (all, good_map_read bytes long (sym tested ∙ passed))
 
-      pub all_fields : {body next : ℕ} → r₃ ≡ Value body next
-          → fields_after m kind (drop 2 bytes) ≡ some (fields kind p c body, drop next bytes)
-      unfolding fields_after
-      all_fields q = value_then h₁ _ q₁ ∙ (value_then h₂ _ q₂ ∙ value_then h₃ _ q)
+  pub no_process : none ≡ read_field (stands 2 map) read_byte after → none ≡ read_record bytes
+  no_process e = nothing_then _ e ∙ start
+
+  module _ {p : ℕ} {bytes₁ : List ℕ} (e₁ : some (p, bytes₁) ≡ read_field (stands 2 map) read_byte after) where
+    pub no_channel : none ≡ read_field (stands 4 map) read_byte bytes₁ → none ≡ read_record bytes
+    no_channel e = nothing_then _ e ∙ (field_then _ e₁ ∙ start)
+
+    module _ {c : ℕ} {bytes₂ : List ℕ} (e₂ : some (c, bytes₂) ≡ read_field (stands 4 map) read_byte bytes₁) where
+      pub no_body : none ≡ read_field (stands 8 map) read_body bytes₂ → none ≡ read_record bytes
+      no_body e = nothing_then _ e ∙ (field_then _ e₂ ∙ (field_then _ e₁ ∙ start))
+
+      module _ {b : ℕ} {bytes₃ : List ℕ} (e₃ : some (b, bytes₃) ≡ read_field (stands 8 map) read_body bytes₂) where
+        all_fields : with_rest (record_of (fields kind p c b)) bytes₃ ≡ read_record bytes
+        all_fields = field_then _ e₃ ∙ (field_then _ e₂ ∙ (field_then _ e₁ ∙ start))
+
+        pub no_row : none ≡ record_of (fields kind p c b) → none ≡ read_record bytes
+        unfolding with_rest
+        no_row e = rw (← e) at all_fields
+
+        pub a_row : {r : Record} → some r ≡ record_of (fields kind p c b) → some (r, bytes₃) ≡ read_record bytes
+        unfolding with_rest
+        a_row e = rw (← e) at all_fields
+
+-- what the check needs before the fields
+pub ruleset parsing = (too_short, bad_map)

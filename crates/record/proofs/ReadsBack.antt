@@ -2,7 +2,7 @@
 -- definitions.
 use Prim.Native.Nat.{ℕ, ◌<◌}
 use mathlib.Core.Path.{◌≡◌, refl, ap}
-use mathlib.Core.List.{List, ◌++◌}
+use mathlib.Core.List.{List, [], ◌++◌, append-nil}
 use mathlib.Core.Option.{none, some}
 use lib.ListN.{length, length-append}
 use lib.Seq.{take-append_seam}
@@ -24,6 +24,11 @@ counted r = take-append_seam (write_record r) _
 pub written_reads : {w : Written} (r : Record) (after : List ℕ) → (fields_of r).body < 4294967296 → w ≡ written r
     → read_record (bytes_of w ++ after) ≡ some (r, after)
 written_reads r after h e = rw (e, counted r) (written_reads_back r after h)
+
+-- so with none
+pub reads_back : (r : Record) (w : Written) → w ≡ written r → (fields_of r).body < 4294967296
+    → read_record (bytes_of w) ≡ some (r, [])
+reads_back r w e h = rw append-nil at (written_reads {w = w} r [] h e)
 
 module _ (bytes : List ℕ) (r : Record) (h : AreBytes bytes) (reads : record_in (read_record bytes) ≡ record_is r) where
   -- The bytes of a slice that `read` answers r to are those that `write` answers of r, and then those that `rest`

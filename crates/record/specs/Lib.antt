@@ -3,6 +3,5 @@
 pub mod RecordRead
 pub mod StepRead
 pub mod Written
-pub mod Field
+pub mod Reads
 pub mod Kind
-pub mod Parse

@@ -1,11 +1,10 @@
 -- What the reader's two functions answer: the two parts of one reading by the definition.
-use Rattle.std.specs.Prelude.{ℕ, List}
+use Rattle.std.specs.Prelude.{ℕ, List, Result, Ok, Err}
 use Rattle.std.proofs.Math.Option.{none, some}
 use Rattle.model.specs.declared.Record.{Record}
+use Rattle.model.specs.declared.Refusal.{Refusal}
 use Rattle.model.specs.Outcome.{refusal_number}
 use Rattle.model.specs.Record as model
-use Rattle.record.specs.declared.RecordRead.{RecordRead}
-use Rattle.record.specs.declared.RecordRead.TheVariants.{Read, Refused}
 
 -- what a reading says: the record, or document 01's number of the refusal
 pub data RecordSaid : Type 0 where
@@ -13,9 +12,9 @@ pub data RecordSaid : Type 0 where
   refuses : ℕ → RecordSaid
 
 -- what each case of the code's answer says
-abbrev pub record_said : RecordRead → RecordSaid
-record_said (Read r) = record_is r
-record_said (Refused x) = refuses (refusal_number x)
+abbrev pub record_said : Result Record Refusal → RecordSaid
+record_said (Ok r) = record_is r
+record_said (Err x) = refuses (refusal_number x)
 
 -- "The reader gives the step [..] All else is 7."
 unfoldable pub record_in : model.Reading Record → RecordSaid

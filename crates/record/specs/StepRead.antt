@@ -1,13 +1,12 @@
 -- The step of a kind, with only the fields that the kind uses.
-use Rattle.std.specs.Prelude.{ℕ, cond, eqb}
+use Rattle.std.specs.Prelude.{ℕ, cond, eqb, Result, Ok, Err}
 use Rattle.std.proofs.Math.Option.{Option, none, some}
 use Rattle.model.specs.declared.Record.TheVariants.{Call}
 use Rattle.model.specs.declared.Step.{Step}
 use Rattle.model.specs.declared.Step.TheVariants.{Send, Receive, Begin, PhysicalCheckpoint, LogicalCheckpoint}
 use Rattle.model.specs.declared.Step.TheVariants.{SendMarker, Commit, Abort}
+use Rattle.model.specs.declared.Refusal.{Refusal}
 use Rattle.model.specs.Outcome.{refusal_number}
-use Rattle.record.specs.declared.StepRead.{StepRead}
-use Rattle.record.specs.declared.StepRead.TheVariants.{Read, Refused}
 use Rattle.record.specs.RecordRead.{RecordSaid, record_is, refuses}
 
 -- "A step is a kind with only the fields it uses": "send uses wire and body; take and note wire; copy and mark board".
@@ -24,9 +23,9 @@ step_of kind process channel body =
     (cond (eqb kind 8) (some Abort) none)))))))
 
 -- what each case of the code's answer says
-abbrev pub step_said : StepRead → RecordSaid
-step_said (Read s) = record_is (Call s)
-step_said (Refused x) = refuses (refusal_number x)
+abbrev pub step_said : Result Step Refusal → RecordSaid
+step_said (Ok s) = record_is (Call s)
+step_said (Err x) = refuses (refusal_number x)
 
 -- "All else is 7."
 unfoldable pub step_in : Option Step → RecordSaid

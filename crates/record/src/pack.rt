@@ -1,4 +1,6 @@
 // The bytes of a record: the bit map, the kind, and the fields that are not 0. No kind uses both process and channel.
+#![tactic(auto, unfolding(model::specs::Record::write_fields, model::specs::Record::map_of, model::specs::Record::bit, model::specs::Record::absent, model::specs::Record::body_bytes, model::specs::Record::field_bytes, crate::specs::Written::holding,),)]
+
 ghost use Rattle.std.specs.Prelude.{◌≡◌};
 ghost use Rattle.model.specs.Record.{write_fields};
 ghost use Rattle.record.specs.Kind.{fields};
@@ -11,25 +13,21 @@ use crate::{LONGEST, Written};
 pub fn with_channel(kind: u8, channel: u8, body: u32) -> Written
     ensures { result ≡ holding (write_fields (fields kind 0 channel body)) }
 {
-    let b = word_bytes(body);
-    if channel == 0 {
-        if body == 0 {
-            return with_process(kind, 0);
-        }
-        return Written {
-            bytes: [KIND + BODY, kind, b[0], b[1], b[2], b[3], 0],
+    let [a, b, c, d] = word_bytes(body);
+    match (channel, body) {
+        (0, 0) => with_process(kind, 0),
+        (0, _) => Written {
+            bytes: [KIND + BODY, kind, a, b, c, d, 0],
             count: 6,
-        };
-    }
-    if body == 0 {
-        return Written {
+        },
+        (_, 0) => Written {
             bytes: [KIND + CHANNEL, kind, channel, 0, 0, 0, 0],
             count: 3,
-        };
-    }
-    Written {
-        bytes: [KIND + CHANNEL + BODY, kind, channel, b[0], b[1], b[2], b[3]],
-        count: LONGEST,
+        },
+        (_, _) => Written {
+            bytes: [KIND + CHANNEL + BODY, kind, channel, a, b, c, d],
+            count: LONGEST,
+        },
     }
 }
 

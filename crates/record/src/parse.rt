@@ -1,70 +1,34 @@
-// One reading of the bytes: the record and where the bytes after it start.
-ghost use Rattle.std.specs.Prelude.{◌≡◌, ◌≤◌, length};
-ghost use Rattle.model.specs.Record.{read_record};
-ghost use Rattle.record.specs.Parse.{Parses, after_map, unread, whole_of};
+// One reading of the bytes: the record, and the bytes after it.
+ghost use Rattle.std.specs.Prelude.{◌≡◌};
+ghost use Rattle.model.specs.Record.{good_map, read_record, stands};
+ghost use Rattle.record.specs.Reads.{reading_of};
 
-use crate::field::Field;
-use crate::{RecordRead, field, kind};
-use model::Refusal;
+use crate::field::{BODY, CHANNEL, MAPS, PROCESS};
+use crate::{field, kind};
+use model::Record;
 
-// What the bytes begin with, and where the bytes after it start: at 0 where it is refused.
-#[derive(Clone, Copy)]
-pub struct Parsed {
-    pub reading: RecordRead,
-    pub next: usize,
+// Bit 0 of a map stands, bits 4 to 7 don't.
+#[tactic(auto, unfolding(model::specs::Record::good_map, model::specs::Record::stands))]
+fn good_map(map: u8) -> bool
+    ensures { result ≡ good_map map }
+{
+    map % 2 == 1 && map < MAPS
 }
 
-// All of the bytes are left.
-fn malformed() -> Parsed
-    ensures { result ≡ unread }
+// The record that the bytes begin with, and the bytes after it: its map, its kind, its fields one after the other.
+#[tactic(auto, using(crate::proofs::ParseLaws::parsing))]
+pub fn parse(bytes: &[u8]) -> Option<(Record, &[u8])>
+    ensures { reading_of result ≡ read_record bytes.now }
 {
-    Parsed {
-        reading: RecordRead::Refused(Refusal::Malformed),
-        next: 0,
-    }
-}
-
-// A record with its end; a refusal has none.
-fn whole(reading: RecordRead, next: usize) -> Parsed
-    ensures { result ≡ whole_of reading next }
-{
-    match reading {
-        RecordRead::Read(_) => Parsed { reading, next },
-        RecordRead::Refused(_) => malformed(),
-    }
-}
-
-// A record with a good bit map: its fields one after the other, and its kind.
-fn fields(bytes: &[u8], map: u8) -> Parsed
-    requires { 2 ≤ length bytes.now }
-    ensures { Parses (after_map map bytes.now) bytes.now result }
-{
-    let Field::Value(process, at) = field::byte(bytes, 2, map / field::PROCESS % 2 == 1) else {
-        return malformed();
+    let [map, kind, rest @ ..] = bytes else {
+        return None;
     };
-    let Field::Value(channel, at) = field::byte(bytes, at, map / field::CHANNEL % 2 == 1) else {
-        return malformed();
-    };
-    let Field::Value(body, at) = field::body(bytes, at, map / field::BODY % 2 == 1) else {
-        return malformed();
-    };
-    whole(
-        kind::record_of(bytes[1], process as u8, channel as u8, body),
-        at,
-    )
-}
-
-// The record that the bytes begin with. Bit 0 of its map stands, bits 4 to 7 don't.
-pub fn parse(bytes: &[u8]) -> Parsed
-    ensures { Parses (read_record bytes.now) bytes.now result }
-{
-    if bytes.len() < 2 {
-        return malformed();
+    if !good_map(*map) {
+        return None;
     }
-    let map = bytes[0];
-    if map % 2 == 1 && map < field::MAPS {
-        fields(bytes, map)
-    } else {
-        malformed()
-    }
+    let (process, rest) = field::byte(rest, *map / PROCESS % 2 == 1)?;
+    let (channel, rest) = field::byte(rest, *map / CHANNEL % 2 == 1)?;
+    let (body, rest) = field::body(rest, *map / BODY % 2 == 1)?;
+    let record = kind::record_of(*kind, process, channel, body)?;
+    Some((record, rest))
 }
