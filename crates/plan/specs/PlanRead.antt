@@ -1,23 +1,24 @@
--- What the reader of a plan answers: whether it is refused, and the plan.
-use Rattle.std.specs.Prelude.{ℕ, List}
+-- What the reader of a plan answers: the plan, or its refusal.
+use Rattle.std.specs.Prelude.{ℕ, List, Result, Ok, Err}
 use Rattle.std.proofs.Math.Option.{Option, none, some}
 use Rattle.model.specs.declared.Topology.{Topology}
-use Rattle.model.specs.Outcome.{refusal_of}
+use Rattle.model.specs.declared.Refusal.{Refusal}
+use Rattle.model.specs.Outcome.{refusal_number}
 use Rattle.model.specs.State.{blank_topology}
 use Rattle.model.specs.Program.{plan_of, plan_refusal}
-use Rattle.plan.specs.declared.PlanRead.{PlanRead}
 
 -- what a reading says: document 01's number of the refusal, if there is one, and the plan
 pub record PlanSaid : Type 0 where
   pub refusal : Option ℕ
   pub plan : Topology
 
-abbrev pub plan_said : PlanRead → PlanSaid
-plan_said r = record { refusal = refusal_of r.verdict; plan = r.topology }
-
 -- a plan that is refused has the blank one in its place
 abbrev pub refused_plan : ℕ → PlanSaid
 refused_plan n = record { refusal = some n; plan = blank_topology }
+
+abbrev pub plan_said : Result Topology Refusal → PlanSaid
+plan_said (Ok T) = record { refusal = none; plan = T }
+plan_said (Err r) = refused_plan (refusal_number r)
 
 unfoldable pub plan_or : Option ℕ → Topology → PlanSaid
 plan_or none T = record { refusal = none; plan = T }
