@@ -2,7 +2,6 @@
 -- says of the code's numbers, and how the promises are met.
 pub mod Stores
 pub mod Views
-pub mod Lengths
 pub mod Bounds
 pub mod Promises
 pub mod Aborting

@@ -50,14 +50,13 @@ module _ (s : State) (x : Step) (before : List ℕ) (budget : ℕ) where
 
   pub step_refused : (r : Refusal)
       → step (view s) (length before) x ≡ quietly (says.refused (refusal_number r)) (view s)
-      → {a : Answer} → a ≡ refused_by r s → Answers s x before budget a before
+      → Answers s x before budget (refused_by r s) before
   unfolding answer quietly
-  step_refused r e is =
-      subst (λ (a : Answer). Answers s x before budget a before) (sym is)
-      (subst (λ (y : Result). found y (refused_by r s) before) (sym e)
+  step_refused r e =
+      subst (λ (y : Result). found y (refused_by r s) before) (sym e)
       (subst (λ (a : Answered). Meets s a (refused_by r s) before)
       (sym (unbudgeted budget (view s) before (quietly (says.refused (refusal_number r)) (view s)) refl))
-      (record { outcome = refl; made = refl; state = refl; kept = λ _. refl; store = refl })))
+      (record { outcome = refl; made = refl; state = refl; kept = λ _. refl; store = refl }))
 
   pub step_own : sound (view s) ≡ true → store_cells ≤ length before → (r : Answer) (after : List ℕ)
       → found (own_result (view s) x) r after → Answers s x before budget r after

@@ -20,10 +20,6 @@ use Rattle.engine.specs.Spent.{Spent, append_if}
 use Rattle.engine.specs.Receiving.{Fits, full_for}
 use Rattle.engine.proofs.Turning.{unchanged}
 
-pub a_bit : (t : Bool) → bool_byte t ≤ 1
-a_bit true = omega arith
-a_bit false = omega arith
-
 -- the two logs that a receipt may go into, by their channel and their process
 module _ (n : LogCounts) (c p : ℕ) where
   pub either_full : (a b : Bool)

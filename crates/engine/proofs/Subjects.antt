@@ -1,7 +1,7 @@
 -- What a step is about: it is within a sound state's arrays; or the step is refused with 8, where there is no such
 -- process or channel.
 use Rattle.std.proofs.Common.{◌≡◌, ℕ, ◌<◌, ◌≤◌, Bool, true, false, cond, ltb, sym, refl, ap, ◌∙◌, subst, arith}
-use Rattle.std.proofs.Common.{ltb-false, ltb-true}
+use Rattle.std.proofs.Common.{Result, Ok, Err, ltb-false, ltb-true}
 use mathlib.Core.Option.{some}
 use Rattle.model.specs.declared.State.{State}
 use Rattle.model.specs.declared.Refusal.{Refusal}
@@ -19,23 +19,20 @@ use Rattle.model.specs.Outcome.{refusal_number}
 use Rattle.model.specs.Outcome as says
 use Rattle.model.proofs.laws.Tests.{Tested, holds, fails, test}
 use Rattle.engine.specs.declared.spot.Subject.{Subject}
-use Rattle.engine.specs.declared.spot.Admission.{Admission}
-use Rattle.engine.specs.declared.spot.Admission.TheVariants.{At}
-use Rattle.engine.specs.declared.spot.Admission.TheVariants as admission
 use Rattle.engine.specs.Spots.{at, no_such, sending, receiving, on_process, subject_of, admission_of, Within}
 use Rattle.engine.proofs.Bounds.{sizes_fit, channel_bound, sender_bound, receiver_bound}
 use Rattle.engine.proofs.Promises.{unsound, short, missing}
 use Rattle.engine.proofs.Turning.{found, found_sending, found_receiving, found_process}
 
 -- no such board or wire: it is refused with 8
-lost : (t : Bool) (a b : ℕ) (r : Refusal) → cond t (at a b) no_such ≡ admission.Refused r → (t ≡ false) × (NoSuch ≡ r)
+lost : (t : Bool) (a b : ℕ) (r : Refusal) → cond t (at a b) no_such ≡ Err r → (t ≡ false) × (NoSuch ≡ r)
 lost true a b r e = let z : ◌≡◌ {A = ℕ} 0 1 = cc in absurd (omega arith)
 lost false a b r e = (refl, cc)
 
-never : {X : Type 0} (r : Refusal) → at 0 0 ≡ admission.Refused r → X
+never : {X : Type 0} (r : Refusal) → at 0 0 ≡ Err r → X
 never r e = let z : ◌≡◌ {A = ℕ} 0 1 = cc in absurd (omega arith)
 
-nowhere : (g : GlobalState) (x : Step) (r : Refusal) → subject_of g.topology x ≡ admission.Refused r
+nowhere : (g : GlobalState) (x : Step) (r : Refusal) → subject_of g.topology x ≡ Err r
     → (first_refusal (own_checks g x) ≡ some 8) × (NoSuch ≡ r)
 unfolding own_checks prior_checks room_checks log_checks first_refusal
 nowhere g (Send c b) r e = let f = lost (has_channel g.topology c) _ _ r e in (rw f.0, f.1)
@@ -51,31 +48,32 @@ nowhere g Abort r e = never r e
 pub record Admitted (s : State) (x : Step) (cells : ℕ) (l : Subject) : Type 0 where
   pub sound : sound (view s) ≡ true
   pub store : store_cells ≤ cells
-  pub subject : subject_of s.topology x ≡ At l
+  pub subject : subject_of s.topology x ≡ Ok l
 
 -- what an admission says of a step: it is admitted, or the refusal is what the definition has
-abbrev pub Admits : State → Step → ℕ → Admission → Type 0
-Admits s x cells (At l) = Admitted s x cells l
-Admits s x cells (admission.Refused r) = step (view s) cells x ≡ quietly (says.refused (refusal_number r)) (view s)
+abbrev pub Admits : State → Step → ℕ → Result Subject Refusal → Type 0
+Admits s x cells (Ok l) = Admitted s x cells l
+Admits s x cells (Err r) = step (view s) cells x ≡ quietly (says.refused (refusal_number r)) (view s)
 
 found_admits : (s : State) (x : Step) (cells : ℕ) → sound (view s) ≡ true → store_cells ≤ cells
-    → (a : Admission) → a ≡ subject_of s.topology x → Admits s x cells a
+    → (a : Result Subject Refusal) → a ≡ subject_of s.topology x → Admits s x cells a
 unfolding view
-found_admits s x cells h l (At subject) e = record { sound = h; store = l; subject = sym e }
-found_admits s x cells h l (admission.Refused r) e =
+found_admits s x cells h l (Ok subject) e = record { sound = h; store = l; subject = sym e }
+found_admits s x cells h l (Err r) e =
     let n = nowhere (view s) x r (sym e) in
     missing s x cells h l n.0 ∙ ap (λ (q : Refusal). quietly (says.refused (refusal_number q)) (view s)) n.1
 
-pub admits : (s : State) (x : Step) (cells : ℕ) (a : Admission) → a ≡ admission_of s x cells → Admits s x cells a
+pub admits : (s : State) (x : Step) (cells : ℕ) (a : Result Subject Refusal) → a ≡ admission_of s x cells
+    → Admits s x cells a
 admits s x cells a e = go (test (sound (view s))) (test (ltb cells store_cells))
   where
     go : Tested (sound (view s)) → Tested (ltb cells store_cells) → Admits s x cells a
     go (holds h) (holds l) =
-        let q : a ≡ admission.Refused ShortStore = e ∙ rw (h, l) in
+        let q : a ≡ Err ShortStore = e ∙ rw (h, l) in
         subst (Admits s x cells) (sym q) (short s x cells h (ltb-true _ _ l))
     go (holds h) (fails l) = found_admits s x cells h (ltb-false _ _ l) a (e ∙ rw (h, l))
     go (fails h) t =
-        let q : a ≡ admission.Refused Unsound = e ∙ rw h in subst (Admits s x cells) (sym q) (unsound s x cells h)
+        let q : a ≡ Err Unsound = e ∙ rw h in subst (Admits s x cells) (sym q) (unsound s x cells h)
 
 -- the subject of a step is within the arrays
 module _ (s : State) (h : sound (view s) ≡ true) {c p : ℕ} where

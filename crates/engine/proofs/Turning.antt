@@ -1,23 +1,23 @@
 -- How a step's turn meets its promise, by what the model's checks and effect are for every state seen so at the spot;
 -- and the state with a turn written back.
-use Rattle.std.proofs.Common.{◌≡◌, ℕ, ◌+◌, ◌^◌, ◌<◌, ◌≤◌, Bool, true, false, cond, List, length, take, sym, refl, ap}
-use Rattle.std.proofs.Common.{◌∙◌, subst, arith, le-ltb, lt-ltb}
+use Rattle.std.proofs.Common.{◌≡◌, ℕ, ◌+◌, ◌^◌, ◌<◌, ◌≤◌, Bool, true, false, cond, List, length, take, refl, ap}
+use Rattle.std.proofs.Common.{◌∙◌, Result, Ok, Err, IsErrAnd, arith, le-ltb, lt-ltb}
 use mathlib.Core.Option.{none, some}
 use borrow.Author.Tests.{eqb-false, not-true}
 use native.Mathlib.Nat.{min-eq_left, min-eq_right}
 use Rattle.model.specs.declared.Topology.{Topology}
 use Rattle.model.specs.declared.Step.{Step}
-use Rattle.model.specs.declared.Outcome.TheVariants.{Refused, PowerLost}
 use Rattle.model.specs.declared.Refusal.{Refusal}
 use Rattle.model.specs.Notation.{upd}
 use Rattle.model.specs.Check.{first_refusal}
 use Rattle.model.specs.Channel.{entries}
 use Rattle.model.specs.Topology.{sender, receiver, has_process, has_channel}
 use Rattle.model.specs.Phase.{is_idle}
-use Rattle.model.specs.State.{GlobalState, Progress, no_counts}
+use Rattle.model.specs.State.{GlobalState, Progress, LogCounts, no_counts}
 use Rattle.model.specs.Sound.{last_line, line_sound}
 use Rattle.model.specs.Change.{with_counts}
-use Rattle.model.specs.Write.{Result, Write, under_budget, write_all}
+use Rattle.model.specs.Write.{Write, under_budget, write_all}
+use Rattle.model.specs.Write as writes
 use Rattle.model.specs.Step.{own_checks, result_of, physical_from, effect, quietly}
 use Rattle.model.specs.Outcome.{refusal_number, said_by}
 use Rattle.model.specs.Heard.{accepted}
@@ -28,10 +28,17 @@ use Rattle.model.proofs.laws.TopologyLaws.{SizesFit, accepted_sizes}
 use Rattle.engine.specs.declared.spot.Subject.{Subject}
 use Rattle.engine.specs.declared.spot.Spot.{Spot}
 use Rattle.engine.specs.declared.spot.Turn.{Turn}
+use Rattle.engine.specs.declared.spot.Stop.{Stop}
+use Rattle.engine.specs.declared.spot.Stop.TheVariants as stop
 use Rattle.engine.specs.Answers.{own_result}
-use Rattle.engine.specs.Spots.{at, no_such, sending, receiving, on_process, Sees, Seen, put_back}
-use Rattle.engine.specs.Spots.{Turns, QuietTurn, GoesFrom, stopping}
+use Rattle.engine.specs.Spots.{at, no_such, sending, receiving, on_process, Sees, Seen, about, put_back, after_turn}
+use Rattle.engine.specs.Spots.{outcome_of, made_of, Turns, may_stop, QuietTurn, GoesFrom}
 use Rattle.engine.proofs.Promises.{unbudgeted}
+
+-- what `?` answers
+pub given_up : {given : Stop} (x : Result Turn Stop) → IsErrAnd x (λ e. e ≡ given) → x ≡ Err given
+given_up (Ok t) h = absurd h
+given_up (Err e) h = ap Err h
 
 -- a subject that was found
 pub record Found (t : Bool) (a b c p : ℕ) : Type 0 where
@@ -76,55 +83,63 @@ module _ (s : Spot) (x : Step) where
   abbrev pub Passes : Type 0
   Passes = (g : GlobalState) → Sees g x s → first_refusal (own_checks g x) ≡ none
 
-  pub quiet_refused : (r : Refusal) → Refuses r → {t : Turn} → t ≡ stopping (Refused r) 0 s → QuietTurn s x t
-  quiet_refused r h is =
-      subst (QuietTurn s x) (sym is)
-      (record { result = λ g v. own_refused g (refusal_number r) (h g v); made = refl; went = refl })
+  pub quiet_refused : (r : Refusal) → Refuses r → QuietTurn s x (Err r)
+  quiet_refused r h = record { result = λ g v. own_refused g (refusal_number r) (h g v); made = refl; went = refl }
 
-  pub quiet_went : {t u : Turn} → t ≡ u → u.went ≡ true → u.made ≡ 0 → accepted (said_by u.outcome) ≡ true
-      → Passes → ((g : GlobalState) → Sees g x s → effect g x ≡ quietly (said_by u.outcome) (put_back s u g))
-      → QuietTurn s x t
-  unfolding put_back
-  quiet_went is w m a h f =
-      subst (QuietTurn s x) (sym is)
-      (record { result = λ g v. own_done g (h g v) ∙ rw w (f g v); made = m; went = a ∙ sym w })
+  pub quiet_went : (t : Turn) → t.made ≡ 0 → accepted (said_by t.outcome) ≡ true → Passes
+      → ((g : GlobalState) → Sees g x s → effect g x ≡ quietly (said_by t.outcome) (put_back (about s) t g))
+      → QuietTurn s x (Ok t)
+  quiet_went t m a h f = record { result = λ g v. own_done g (h g v) ∙ f g v; made = m; went = a }
 
   module _ (before : List ℕ) (budget : ℕ) where
-    pub quiet_turns : (t : Turn) → QuietTurn s x t → Turns s x before budget t before
-    unfolding quietly
-    quiet_turns t q =
-        record {
-          answered = λ g v. rw (q.result g v, q.made) (unbudgeted budget g before _ refl);
-          went = q.went;
+    quiet_turn : (r : Result Turn Refusal) → QuietTurn s x r → (g : GlobalState) → Sees g x s
+        → under_budget budget g before (own_result g x)
+        ≡ record {
+          outcome = said_by (outcome_of (may_stop r));
+          made = made_of budget (may_stop r);
+          state = after_turn s (may_stop r) g;
+          store = before;
         }
+    unfolding quietly
+    quiet_turn (Ok t) q g v = rw (q.result g v, q.made) (unbudgeted budget g before _ refl)
+    quiet_turn (Err r) q g v = rw (q.result g v) (unbudgeted budget g before _ refl)
 
-    pub turns_refused : (r : Refusal) → Refuses r → {t : Turn} → t ≡ stopping (Refused r) 0 s
-        → Turns s x before budget t before
-    turns_refused r h is = quiet_turns _ (quiet_refused r h is)
+    pub quiet_turns : (r : Result Turn Refusal) → QuietTurn s x r → Turns s x before budget (may_stop r) before
+    quiet_turns (Ok t) q = record { answered = quiet_turn (Ok t) q; went = q.went }
+    quiet_turns (Err r) q = record { answered = quiet_turn (Err r) q; went = q.went }
+
+    -- what `turn` hands on of such a step, which is this one
+    pub quiet_done : {y : Step} {t : Turn} → x ≡ y → QuietTurn s y (Ok t) → Turns s x before budget (Ok t) before
+    quiet_done {t = t} e q = quiet_turns (Ok t) (rw e q)
+
+    pub quiet_stops : {y : Step} {r : Refusal} (t : Result Turn Stop) → IsErrAnd t (λ e. e ≡ stop.Refused r) → x ≡ y
+        → QuietTurn s y (Err r) → Turns s x before budget t before
+    quiet_stops {r = r} t given e q = rw (given_up t given) (quiet_turns (Err r) (rw e q))
+
+    pub turns_refused : (r : Refusal) → Refuses r → Turns s x before budget (Err (stop.Refused r)) before
+    turns_refused r h = quiet_turns (Err r) (quiet_refused r h)
 
     -- past the checks, with these writes needed
     module _ (h : Passes) (ws : List Write) (after : List ℕ) (written : after ≡ write_all before (take budget ws)) where
-      pub turns_lost : ((g : GlobalState) → Sees g x s → (effect g x).writes ≡ ws) → budget < length ws → {t : Turn}
-          → t ≡ stopping PowerLost budget s → Turns s x before budget t after
+      pub turns_lost : ((g : GlobalState) → Sees g x s → (effect g x).writes ≡ ws) → budget < length ws
+          → Turns s x before budget (Err stop.PowerLost) after
       unfolding under_budget
-      turns_lost f l is =
-          subst (λ (t : Turn). Turns s x before budget t after) (sym is)
-          (record {
+      turns_lost f l =
+          record {
             answered =
                 λ g v. rw (own_done g (h g v), f g v, lt-ltb budget (length ws) l, min-eq_left (le_of l), written);
             went = refl;
-          })
+          }
         where
           le_of : budget < length ws → budget ≤ length ws
           le_of k = omega arith
 
-      pub turns_done : (t : Turn) → t.went ≡ true → t.made ≡ length ws → accepted (said_by t.outcome) ≡ true
-          → length ws ≤ budget
+      pub turns_done : (t : Turn) → t.made ≡ length ws → accepted (said_by t.outcome) ≡ true → length ws ≤ budget
           → ((g : GlobalState) → Sees g x s
-          → effect g x ≡ record { outcome = said_by t.outcome; state = put_back s t g; writes = ws })
-          → Turns s x before budget t after
+          → effect g x ≡ record { outcome = said_by t.outcome; state = put_back (about s) t g; writes = ws })
+          → Turns s x before budget (Ok t) after
       unfolding under_budget
-      turns_done t w m a l f =
+      turns_done t m a l f =
           record {
             answered =
                 λ g v. rw (
@@ -133,10 +148,9 @@ module _ (s : Spot) (x : Step) where
                   le-ltb budget (length ws) l,
                   min-eq_right l,
                   written,
-                  w,
                   m,
                 );
-            went = a ∙ sym w;
+            went = a;
           }
 
       -- one that lets the physical checkpoints go on
@@ -148,9 +162,9 @@ module _ (s : Spot) (x : Step) where
             state = physical_from from (with_counts (cond counts no_counts g.counts) g);
             writes = ws;
           })
-          → Turns s x before budget t after
+          → Turns s x before budget (Ok t) after
       turns_from {t = t} on m l f =
-          turns_done t on.went (on.made ∙ m) (rw on.outcome) l
+          turns_done t (on.made ∙ m) (rw on.outcome) l
           (λ g v. f g v ∙ rw (on.state x g v, on.outcome))
 
 -- What a turn leaves as it was is written back as it was.
@@ -197,10 +211,13 @@ module _ {g : GlobalState} {x : Step} {s : Spot} (v : Sees g x s) where
         channels = unchanged g.counts.channels s.channel s.in_channel v.in_channel i;
       }
 
--- a round's progress, part by part
+-- a round's progress and the logs' counts, part by part
 pub same_flags : {a b : Progress} → a.logical ≡ b.logical → a.saved ≡ b.saved → a.closed ≡ b.closed
     → a.sent ≡ b.sent → a ≡ b
 same_flags l v c t = λ i. record { logical = l i; saved = v i; closed = c i; sent = t i }
+
+pub both_counts : {a b : LogCounts} → a.messages ≡ b.messages → a.channels ≡ b.channels → a ≡ b
+both_counts m c = λ i. record { messages = m i; channels = c i }
 
 -- a round under way is for a line that has a number
 pub next_line_lem : {x : Step} {s : Spot} → Seen x s → is_idle s.round.phase ≡ false → s.round.line < 2 ^ 32
@@ -212,7 +229,7 @@ next_line_lem {s = s} seen busy l =
     omega (arith, eqb-false s.round.line last_line (not-true _ (rw busy at fits)))
 
 -- two results that agree in every part
-pub same_result : {a b : Result} → a.outcome ≡ b.outcome → a.state ≡ b.state → a.writes ≡ b.writes → a ≡ b
+pub same_result : {a b : writes.Result} → a.outcome ≡ b.outcome → a.state ≡ b.state → a.writes ≡ b.writes → a ≡ b
 same_result o s w = λ i. record { outcome = o i; state = s i; writes = w i }
 
 -- the sizes of a sound state's topology, as the spot has them

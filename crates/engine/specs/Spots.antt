@@ -1,12 +1,10 @@
 -- A step on one spot: what it is about, when a state is seen so there, and what a state becomes by the turn.
 use Rattle.std.specs.Prelude.{◌≡◌, ℕ, ◌<◌, ◌≤◌, Bool, true, false, cond, not, ◌&&◌, ◌||◌, List, [], get_or}
-use Rattle.std.specs.Prelude.{replicate, nat_lt, slice_index, slice_index_or, slice_set}
+use Rattle.std.specs.Prelude.{Result, Ok, Err, is_ok, nat_lt, slice_index, slice_index_or}
 use Rattle.model.specs.declared.Answer.{Answer}
-use Rattle.model.specs.declared.Channel.{Channel}
-use Rattle.model.specs.declared.Counts.{Counts}
 use Rattle.model.specs.declared.Flags.{Flags}
+use Rattle.model.specs.declared.Refusal.{Refusal}
 use Rattle.model.specs.declared.Refusal.TheVariants.{NoSuch, ShortStore, Unsound}
-use Rattle.model.specs.declared.Round.{Round}
 use Rattle.model.specs.declared.State.{State}
 use Rattle.model.specs.declared.Topology.{Topology}
 use Rattle.model.specs.declared.Step.{Step}
@@ -14,12 +12,13 @@ use Rattle.model.specs.declared.Step.TheVariants.{Send, Receive, Begin, Physical
 use Rattle.model.specs.declared.Step.TheVariants.{LogicalCheckpoint, SendMarker, Commit, Abort}
 use Rattle.model.specs.declared.Outcome.{Outcome}
 use Rattle.model.specs.declared.Outcome.TheVariants.{Done}
+use Rattle.model.specs.declared.Outcome.TheVariants as outcome
 use Rattle.model.specs.Notation.{upd, all_below, bit_of}
 use Rattle.model.specs.Topology.{process_limit, channel_limit, sender, receiver, has_process, has_channel}
-use Rattle.model.specs.Channel.{entries}
+use Rattle.model.specs.Channel.{entries, held}
 use Rattle.model.specs.Phase.{is_logical, is_next}
 use Rattle.model.specs.Layout.{store_cells}
-use Rattle.model.specs.State.{GlobalState, no_progress, no_counts, view}
+use Rattle.model.specs.State.{GlobalState, Progress, LogCounts, no_places, no_progress, no_counts, view}
 use Rattle.model.specs.Sound.{sound}
 use Rattle.model.specs.Change.{plain_channels, with_counts}
 use Rattle.model.specs.Outcome.{said_by}
@@ -27,36 +26,39 @@ use Rattle.model.specs.Heard.{accepted}
 use Rattle.model.specs.Write.{Write, under_budget, clear_writes}
 use Rattle.model.specs.Step.{has_physical, physical_from, quietly}
 use Rattle.engine.specs.declared.spot.Subject.{Subject}
-use Rattle.engine.specs.declared.spot.Admission.{Admission}
-use Rattle.engine.specs.declared.spot.Admission.TheVariants.{At}
-use Rattle.engine.specs.declared.spot.Admission.TheVariants as admission
 use Rattle.engine.specs.declared.spot.Spot.{Spot}
 use Rattle.engine.specs.declared.spot.Reset.{Reset}
 use Rattle.engine.specs.declared.spot.Turn.{Turn}
+use Rattle.engine.specs.declared.spot.Stop.{Stop}
+use Rattle.engine.specs.declared.spot.Stop.TheVariants.{Refused, PowerLost}
 use Rattle.engine.specs.Answers.{own_result}
 
-abbrev pub at : ℕ → ℕ → Admission
-at c p = At (record { channel = c; process = p })
+-- a step is about this channel and this process; or it is about one that there isn't (refusal 8)
+abbrev pub at : ℕ → ℕ → Result Subject Refusal
+at c p = Ok (record { channel = c; process = p })
 
-abbrev pub no_such : Admission
-no_such = admission.Refused NoSuch
+abbrev pub no_such : Result Subject Refusal
+no_such = Err NoSuch
 
--- a channel with its sender or its receiver, and a process; or there is no such one (refusal 8)
-abbrev pub sending : Topology → ℕ → Admission
+-- about a channel, and the process at that one of its ends that these are; about a process; about none
+abbrev pub at_end : ℕ → List ℕ → ℕ → Result Subject Refusal
+at_end channels ends c = cond (nat_lt c channels) (at c (slice_index ends c)) no_such
+
+abbrev pub sending : Topology → ℕ → Result Subject Refusal
 sending T c = cond (has_channel T c) (at c (sender T c)) no_such
 
-abbrev pub receiving : Topology → ℕ → Admission
+abbrev pub receiving : Topology → ℕ → Result Subject Refusal
 receiving T c = cond (has_channel T c) (at c (receiver T c)) no_such
 
-abbrev pub on_process : Topology → ℕ → Admission
+abbrev pub on_process : Topology → ℕ → Result Subject Refusal
 on_process T p = cond (has_process T p) (at 0 p) no_such
 
 -- 0 where a step is about no channel or no process
-abbrev pub about_none : Admission
+abbrev pub about_none : Result Subject Refusal
 about_none = at 0 0
 
 -- what a step is about
-abbrev pub subject_of : Topology → Step → Admission
+abbrev pub subject_of : Topology → Step → Result Subject Refusal
 subject_of T (Send c b) = sending T c
 subject_of T (Receive c) = receiving T c
 subject_of T Begin = about_none
@@ -67,10 +69,9 @@ subject_of T Commit = about_none
 subject_of T Abort = about_none
 
 -- before everything else 15, then 6, then 8; cells is the number of the store's cells
-abbrev pub admission_of : State → Step → ℕ → Admission
+abbrev pub admission_of : State → Step → ℕ → Result Subject Refusal
 admission_of s x cells =
-    cond (sound (view s)) (cond (nat_lt cells store_cells) (admission.Refused ShortStore) (subject_of s.topology x))
-    (admission.Refused Unsound)
+    cond (sound (view s)) (cond (nat_lt cells store_cells) (Err ShortStore) (subject_of s.topology x)) (Err Unsound)
 
 abbrev pub is_commit : Step → Bool
 is_commit (Send c b) = false
@@ -115,8 +116,31 @@ pub record Seen (x : Step) (s : Spot) : Type 0 where
   pub sees : Sees state x s
   pub sound : sound state ≡ true
 
--- the state g with the turn r at the spot s written back
-unfoldable pub put_back : Spot → Turn → GlobalState → GlobalState
+-- what a spot is about
+abbrev pub about : Spot → Subject
+about s = record { channel = s.channel; process = s.process }
+
+-- a round's progress and the logs' counts with what the spot n has of the subject s, or set back
+abbrev pub put_progress : Bool → Subject → Spot → Progress → Progress
+put_progress back s n p =
+    cond back no_progress
+    (record {
+      logical = upd p.logical s.process n.logical;
+      saved = upd p.saved s.process n.saved;
+      closed = upd p.closed s.channel n.closed;
+      sent = upd p.sent s.channel n.sent;
+    })
+
+abbrev pub put_counts : Bool → Subject → Spot → LogCounts → LogCounts
+put_counts back s n k =
+    cond back no_counts
+    (record {
+      messages = upd k.messages s.process n.in_messages;
+      channels = upd k.channels s.channel n.in_channel;
+    })
+
+-- the state g with the turn r at the subject s written back
+unfoldable pub put_back : Subject → Turn → GlobalState → GlobalState
 put_back s r g =
     record {
       topology = g.topology;
@@ -125,39 +149,51 @@ put_back s r g =
       tag = cond r.reset.tags (λ p. false) (upd g.tag s.process r.spot.tag);
       channel =
           cond r.reset.tags (plain_channels g) (upd g.channel s.channel (entries r.spot.held));
-      progress =
-          cond r.reset.flags no_progress
-          (record {
-            logical = upd g.progress.logical s.process r.spot.logical;
-            saved = upd g.progress.saved s.process r.spot.saved;
-            closed = upd g.progress.closed s.channel r.spot.closed;
-            sent = upd g.progress.sent s.channel r.spot.sent;
-          });
-      counts =
-          cond r.reset.counts no_counts
-          (record {
-            messages = upd g.counts.messages s.process r.spot.in_messages;
-            channels = upd g.counts.channels s.channel r.spot.in_channel;
-          });
+      progress = put_progress r.reset.flags s r.spot g.progress;
+      counts = put_counts r.reset.counts s r.spot g.counts;
     }
 
--- the state after a turn: where the step was refused or cut, the one before it
-abbrev pub after_turn : Spot → Turn → GlobalState → GlobalState
-after_turn s r g = cond r.went (put_back s r g) g
+-- the state after a step's own part: where the step was refused or cut, the one before it
+abbrev pub after_turn : Spot → Result Turn Stop → GlobalState → GlobalState
+after_turn s (Ok r) g = put_back (about s) r g
+after_turn s (Err stop) g = g
+
+-- what it answers, and how many writes it made, with a budget
+abbrev pub outcome_of : Result Turn Stop → Outcome
+outcome_of (Ok r) = r.outcome
+outcome_of (Err (Refused r)) = outcome.Refused r
+outcome_of (Err PowerLost) = outcome.PowerLost
+
+abbrev pub made_of : ℕ → Result Turn Stop → ℕ
+made_of budget (Ok r) = r.made
+made_of budget (Err (Refused r)) = 0
+made_of budget (Err PowerLost) = budget
 
 -- The promise of a step's own part: of every state that looks so at the spot, the turn is what the model's definition
 -- has.
-pub record Turns (s : Spot) (x : Step) (before : List ℕ) (budget : ℕ) (r : Turn) (after : List ℕ) : Type 0 where
+pub record Turns (s : Spot) (x : Step) (before : List ℕ) (budget : ℕ) (r : Result Turn Stop)
+    (after : List ℕ) : Type 0 where
   pub answered : (g : GlobalState) → Sees g x s
       → under_budget budget g before (own_result g x)
-      ≡ record { outcome = said_by r.outcome; made = r.made; state = after_turn s r g; store = after }
-  pub went : accepted (said_by r.outcome) ≡ r.went
+      ≡ record {
+        outcome = said_by (outcome_of r);
+        made = made_of budget r;
+        state = after_turn s r g;
+        store = after;
+      }
+  pub went : accepted (said_by (outcome_of r)) ≡ is_ok r
 
--- and of a step that writes nothing, for any store and budget
-pub record QuietTurn (s : Spot) (x : Step) (r : Turn) : Type 0 where
-  pub result : (g : GlobalState) → Sees g x s → own_result g x ≡ quietly (said_by r.outcome) (after_turn s r g)
-  pub made : r.made ≡ 0
-  pub went : accepted (said_by r.outcome) ≡ r.went
+-- what a step that writes nothing answers, as of any step
+abbrev pub may_stop : Result Turn Refusal → Result Turn Stop
+may_stop (Ok r) = Ok r
+may_stop (Err r) = Err (Refused r)
+
+-- and what its turn promises, for any store and budget
+pub record QuietTurn (s : Spot) (x : Step) (r : Result Turn Refusal) : Type 0 where
+  pub result : (g : GlobalState) → Sees g x s
+      → own_result g x ≡ quietly (said_by (outcome_of (may_stop r))) (after_turn s (may_stop r) g)
+  pub made : made_of 0 (may_stop r) ≡ 0
+  pub went : accepted (said_by (outcome_of (may_stop r))) ≡ is_ok r
 
 -- whether the spot's process, which is late or not, may have its physical checkpoint
 abbrev pub may_physically : Spot → Bool → Bool
@@ -167,11 +203,10 @@ may_physically s late =
 -- An accepted turn after m writes: in every state seen so the physical checkpoints go on from process `from`, with the
 -- logs' counts set back or not.
 pub record GoesFrom (s : Spot) (from : ℕ) (counts : Bool) (m : ℕ) (r : Turn) : Type 0 where
-  pub went : r.went ≡ true
   pub outcome : r.outcome ≡ Done
   pub made : r.made ≡ m
   pub state : (x : Step) (g : GlobalState) → Sees g x s
-      → physical_from from (with_counts (cond counts no_counts g.counts) g) ≡ put_back s r g
+      → physical_from from (with_counts (cond counts no_counts g.counts) g) ≡ put_back (about s) r g
 
 -- a topology of these sizes: what a begin clears goes by the sizes alone
 abbrev pub sized : ℕ → ℕ → Topology
@@ -191,9 +226,11 @@ all_checkpointed logical saved late n =
     all_below n (λ p. slice_index_or logical p false && (not (bit_of late p) || slice_index_or saved p false))
 
 -- and whether each channel is closed too, for a whole topology, asked for a commit alone
-abbrev pub through_in : Step → Topology → (logical saved closed : List Bool) → Bool
-through_in x T logical saved closed =
-    cond (is_commit x) (all_checkpointed logical saved T.late T.processes && all_set closed T.channels) false
+abbrev pub through_in : Step → Topology → Flags → Bool
+through_in x T flags =
+    cond (is_commit x)
+    (all_checkpointed flags.logical flags.saved T.late T.processes && all_set flags.closed T.channels)
+    false
 
 -- a subject and a topology's sizes that are within a state's arrays
 pub record Within (T : Topology) (at : Subject) : Type 0 where
@@ -202,41 +239,35 @@ pub record Within (T : Topology) (at : Subject) : Type 0 where
   pub channel : at.channel < channel_limit
   pub process : at.process < process_limit
 
--- the spot of a subject, by the parts of a state
-abbrev pub spot_of : Step → Subject → Topology → Round → Channel → Flags → Counts → ℕ → Bool → Spot
-spot_of x at T round held flags counts word tag =
+-- the spot of a subject
+abbrev pub spot_of : State → Step → Subject → Spot
+spot_of s x at =
     record {
       channel = at.channel;
       process = at.process;
-      processes = T.processes;
-      channels = T.channels;
-      late = T.late;
-      round = round;
-      held = held;
-      closed = slice_index_or flags.closed at.channel false;
-      sent = slice_index_or flags.sent at.channel false;
-      in_channel = slice_index counts.channels at.channel;
-      word = word;
-      tag = tag;
-      logical = slice_index_or flags.logical at.process false;
-      saved = slice_index_or flags.saved at.process false;
-      in_messages = slice_index counts.messages at.process;
-      first = slice_index_or flags.logical 0 false;
-      through = through_in x T flags.logical flags.saved flags.closed;
+      processes = s.topology.processes;
+      channels = s.topology.channels;
+      late = s.topology.late;
+      round = s.round;
+      held = held (slice_index_or s.places at.channel no_places) (slice_index s.lengths at.channel);
+      closed = slice_index_or s.flags.closed at.channel false;
+      sent = slice_index_or s.flags.sent at.channel false;
+      in_channel = slice_index s.counts.channels at.channel;
+      word = slice_index s.words at.process;
+      tag = slice_index_or s.tags at.process false;
+      logical = slice_index_or s.flags.logical at.process false;
+      saved = slice_index_or s.flags.saved at.process false;
+      in_messages = slice_index s.counts.messages at.process;
+      first = slice_index_or s.flags.logical 0 false;
+      through = through_in x s.topology s.flags;
     }
 
--- an array of n places with one of them written, or all set back to z
-abbrev pub rewritten : {A : Type 0} → ℕ → A → Bool → List A → ℕ → A → List A
-rewritten n z back l i x = cond back (replicate n z) (slice_set l i x)
-
-abbrev pub answer_of : Turn → State → Answer
-answer_of r s = record { outcome = r.outcome; made = r.made; state = s }
+-- the answer to a step, with the state after it
+abbrev pub answer_of : ℕ → Result Turn Stop → State → Answer
+answer_of budget r s = record { outcome = outcome_of r; made = made_of budget r; state = s }
 
 abbrev pub nothing : Reset
 nothing = record { counts = false; flags = false; tags = false }
 
-abbrev pub stopping : Outcome → ℕ → Spot → Turn
-stopping o n s = record { went = false; outcome = o; made = n; spot = s; reset = nothing }
-
 abbrev pub going : Outcome → ℕ → Spot → Turn
-going o n s = record { went = true; outcome = o; made = n; spot = s; reset = nothing }
+going o n s = record { outcome = o; made = n; spot = s; reset = nothing }

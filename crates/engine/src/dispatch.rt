@@ -4,127 +4,107 @@ ghost use Rattle.model.specs.Topology.{channel_limit};
 ghost use Rattle.model.specs.Layout.{store_cells};
 ghost use Rattle.model.specs.State.{view};
 ghost use Rattle.model.specs.Change.{with_channel, plain_channels};
-ghost use Rattle.engine.specs.Answers.{Answers, refused_by};
-ghost use Rattle.engine.specs.Spots.{admission_of, Seen, Turns, answer_of};
+ghost use Rattle.engine.specs.Answers.{Answers};
+ghost use Rattle.engine.specs.Spots.{admission_of, Seen, Within, Turns, put_back, answer_of};
 
-use crate::spot::{Admission, Spot, Turn};
+use crate::spot::{Spot, Stop, Subject, Turn};
 use crate::{
     abort, begin, commit, logical_checkpoint, physical_checkpoint, receive, send, send_marker,
     spot, write,
 };
-use model::{Answer, Outcome, Refusal, State, Step};
+use model::{Answer, Outcome, PROCESSES, Refusal, State, Step};
 use rules::{channel, layout, sound};
 
 // Refusals 15, 6 and 8, in this order; and the subject of a step that is none of them.
-fn admit(state: State, step: Step, cells: usize) -> Admission
-    ensures { result ≡ admission_of state step cells }
+fn admit(state: &State, step: Step, cells: usize) -> Result<Subject, Refusal>
+    ensures { result ≡ admission_of state.now step cells }
 {
-    if !sound::sound(state) {
-        return Admission::Refused(Refusal::Unsound);
+    if !sound::sound(*state) {
+        return Err(Refusal::Unsound);
     }
     if cells < layout::STORE_CELLS {
-        return Admission::Refused(Refusal::ShortStore);
+        return Err(Refusal::ShortStore);
     }
-    let t = state.topology;
-    spot::find(t, step)
+    spot::find(&state.topology, step)
 }
 
-// A step's own part, on its spot.
-fn turn(step: Step, s: Spot, store: &mut [u32], budget: u32) -> Turn
+// A step's own part, on its spot. (That the store is long enough is asked here and of each step that writes: whoever
+// calls lends any store, so that a type that says it would be made of the slice anew for every call.)
+fn turn(step: Step, s: Spot, store: &mut [u32], budget: u32) -> Result<Turn, Stop>
     requires { Seen step s × (store_cells ≤ length store.old) }
     ensures { Turns s step store.old budget result store.new }
 {
     match step {
-        Step::Send { channel: _, body } => send::send(s, body),
-        Step::Receive { channel: _ } => receive::receive(s, store, budget),
+        Step::Send { body, .. } => Ok(send::send(s, body)?),
+        Step::Receive { .. } => receive::receive(s, store, budget),
         Step::Begin => begin::begin(s, store, budget),
-        Step::PhysicalCheckpoint { process: _ } => {
+        Step::PhysicalCheckpoint { .. } => {
             physical_checkpoint::physical_checkpoint(s, store, budget)
         }
-        Step::LogicalCheckpoint { process: _ } => logical_checkpoint::logical_checkpoint(s),
-        Step::SendMarker { channel: _ } => send_marker::send_marker(s),
+        Step::LogicalCheckpoint { .. } => Ok(logical_checkpoint::logical_checkpoint(s)?),
+        Step::SendMarker { .. } => Ok(send_marker::send_marker(s)?),
         Step::Commit => commit::commit(s, store, budget),
-        Step::Abort => abort::abort(s),
+        Step::Abort => Ok(abort::abort(s)?),
     }
 }
 
 // The planned channels with their messages alone, in order and with tag 0.
-fn plain_channels(mut state: State) -> State
-    requires { state.topology.channels ≤ channel_limit }
-    ensures { view result ≡ with_channel (plain_channels (view state)) (view state) }
+fn plain_channels(state: &mut State)
+    requires { state.old.topology.channels ≤ channel_limit }
+    ensures { view state.new ≡ with_channel (plain_channels (view state.old)) (view state.old) }
 {
-    let t = state.topology;
-    let mut i: u8 = 0;
-    while i < t.channels {
-        let at = i as usize;
-        let plain = channel::plain(channel::held(state.places[at], state.lengths[at]));
-        state.places[at] = channel::places(plain);
-        state.lengths[at] = channel::used(plain);
-        i += 1;
-    }
-    state
-}
-
-// A refusal before the turn: no write was made, and the very state handed in comes back.
-fn refused(state: State, refusal: Refusal) -> Answer
-    ensures { result ≡ refused_by refusal state }
-{
-    Answer {
-        outcome: Outcome::Refused(refusal),
-        made: 0,
-        state,
+    for c in 0..state.topology.channels as usize {
+        let plain = channel::plain(channel::held(state.places[c], state.lengths[c]));
+        state.places[c] = channel::places(plain);
+        state.lengths[c] = channel::used(plain);
     }
 }
 
-// The answer, with the state as the turn left it.
-fn answered(came: Turn, state: State) -> Answer
-    ensures { result ≡ answer_of came state }
+// The state with a turn at this subject written back.
+fn write_back(state: &mut State, at: Subject, turn: Turn)
+    requires { Within state.old.topology at }
+    ensures { view state.new ≡ put_back at turn (view state.old) }
 {
-    let outcome = came.outcome;
-    Answer {
-        outcome,
-        made: came.made,
-        state,
+    let c = at.channel as usize;
+    let p = at.process as usize;
+    let new = turn.spot;
+    state.round = new.round;
+    state.words[p] = new.word;
+    write::flags(&mut state.flags, turn.reset.flags, at, new);
+    write::counts(&mut state.counts, turn.reset.counts, at, new);
+    if turn.reset.tags {
+        state.tags = [false; PROCESSES];
+        plain_channels(state);
+    } else {
+        state.tags[p] = new.tag;
+        state.places[c] = channel::places(new.held);
+        state.lengths[c] = channel::used(new.held);
     }
+}
+
+// The step on a state that it leaves as it was unless it accepts the step.
+fn make(state: &mut State, step: Step, store: &mut [u32], budget: u32) -> Result<Turn, Stop>
+    ensures { Answers state.old step store.old budget (answer_of budget result state.new) store.new }
+{
+    let at = admit(state, step, store.len())?;
+    let s = spot::read(state, step, at);
+    let turn = turn(step, s, store, budget)?;
+    write_back(state, at, turn);
+    Ok(turn)
 }
 
 // A step of any kind, of any state and any store, with the number of writes that the power lasts for.
 pub fn step(mut state: State, step: Step, store: &mut [u32], budget: u32) -> Answer
     ensures { Answers state step store.old budget result store.new }
 {
-    let at = match admit(state, step, store.len()) {
-        Admission::At(at) => at,
-        Admission::Refused(refusal) => return refused(state, refusal),
+    let (outcome, made) = match make(&mut state, step, store, budget) {
+        Ok(turn) => (turn.outcome, turn.made),
+        Err(Stop::Refused(refusal)) => (Outcome::Refused(refusal), 0),
+        Err(Stop::PowerLost) => (Outcome::PowerLost, budget),
     };
-    let c = at.channel as usize;
-    let p = at.process as usize;
-    let t = state.topology;
-    let logs = state.counts;
-    let held = channel::held(state.places[c], state.lengths[c]);
-    let word = state.words[p];
-    let tag = state.tags[p];
-    let s = spot::read(step, at, t, state.round, held, state.flags, logs, word, tag);
-    let came = turn(step, s, store, budget);
-    if !came.went {
-        return answered(came, state);
+    Answer {
+        outcome,
+        made,
+        state,
     }
-    let new = came.spot;
-    let reset = came.reset;
-    let next = new.round;
-    state.round = next;
-    state.words[p] = new.word;
-    write::process_flag(&mut state.tags, reset.tags, p, new.tag);
-    write::process_flag(&mut state.flags.logical, reset.flags, p, new.logical);
-    write::process_flag(&mut state.flags.saved, reset.flags, p, new.saved);
-    write::channel_flag(&mut state.flags.closed, reset.flags, c, new.closed);
-    write::channel_flag(&mut state.flags.sent, reset.flags, c, new.sent);
-    write::process_count(&mut state.counts.messages, reset.counts, p, new.in_messages);
-    write::channel_count(&mut state.counts.channels, reset.counts, c, new.in_channel);
-    if reset.tags {
-        state = plain_channels(state);
-    } else {
-        state.places[c] = channel::places(new.held);
-        state.lengths[c] = channel::used(new.held);
-    }
-    answered(came, state)
 }

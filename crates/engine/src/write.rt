@@ -1,51 +1,37 @@
-// One place of one of a state's arrays written, or the whole array set back. A state can't be lent, and handed over by
-// value it is copied; its arrays can be lent one by one.
-ghost use Rattle.std.specs.Prelude.{◌≡◌, ◌<◌, false};
+// What a turn writes of a round's progress and of the logs' counts: what its spot has, or all of it set back.
+ghost use Rattle.std.specs.Prelude.{◌≡◌, ◌<◌};
 ghost use Rattle.model.specs.Topology.{process_limit, channel_limit};
-ghost use Rattle.engine.specs.Spots.{rewritten};
+ghost use Rattle.model.specs.State.{view_progress, view_counts};
+ghost use Rattle.engine.specs.Spots.{put_progress, put_counts};
 
-use model::{CHANNELS, PROCESSES};
+use crate::spot::{Spot, Subject};
+use model::{Counts, Flags};
+use rules::fresh;
 
-pub fn process_flag(flags: &mut [bool; PROCESSES], back: bool, at: usize, flag: bool)
-    requires { at < process_limit }
-    ensures { flags.new ≡ rewritten process_limit false back flags.old at flag }
+pub fn flags(flags: &mut Flags, back: bool, at: Subject, new: Spot)
+    requires { (at.channel < channel_limit) × (at.process < process_limit) }
+    ensures { view_progress flags.new ≡ put_progress back at new (view_progress flags.old) }
 {
     if back {
-        *flags = [false; PROCESSES];
+        *flags = fresh::flags();
     } else {
-        flags[at] = flag;
+        let c = at.channel as usize;
+        let p = at.process as usize;
+        flags.logical[p] = new.logical;
+        flags.saved[p] = new.saved;
+        flags.closed[c] = new.closed;
+        flags.sent[c] = new.sent;
     }
 }
 
-pub fn channel_flag(flags: &mut [bool; CHANNELS], back: bool, at: usize, flag: bool)
-    requires { at < channel_limit }
-    ensures { flags.new ≡ rewritten channel_limit false back flags.old at flag }
+pub fn counts(counts: &mut Counts, back: bool, at: Subject, new: Spot)
+    requires { (at.channel < channel_limit) × (at.process < process_limit) }
+    ensures { view_counts counts.new ≡ put_counts back at new (view_counts counts.old) }
 {
     if back {
-        *flags = [false; CHANNELS];
+        *counts = fresh::counts();
     } else {
-        flags[at] = flag;
-    }
-}
-
-pub fn process_count(counts: &mut [u8; PROCESSES], back: bool, at: usize, count: u8)
-    requires { at < process_limit }
-    ensures { counts.new ≡ rewritten process_limit 0 back counts.old at count }
-{
-    if back {
-        *counts = [0; PROCESSES];
-    } else {
-        counts[at] = count;
-    }
-}
-
-pub fn channel_count(counts: &mut [u8; CHANNELS], back: bool, at: usize, count: u8)
-    requires { at < channel_limit }
-    ensures { counts.new ≡ rewritten channel_limit 0 back counts.old at count }
-{
-    if back {
-        *counts = [0; CHANNELS];
-    } else {
-        counts[at] = count;
+        counts.messages[at.process as usize] = new.in_messages;
+        counts.channels[at.channel as usize] = new.in_channel;
     }
 }
