@@ -1,15 +1,15 @@
 -- Laws of appending to a buffer, also where it ends on the way: nothing, one text and then another, the buffer's
 -- length, and how long a text can be.
-use Prim.Native.Nat.{ℕ, ◌+◌, ◌-◌, ◌≤◌, ◌<◌}
+use Prim.Native.Nat.{ℕ, ◌+◌, ◌-◌, ◌≤◌, ◌<◌, min}
 use mathlib.Core.Path.{◌≡◌, sym, ap, ◌∙◌}
 use mathlib.Core.List.{List, [], ◌++◌, append_assoc, append-nil}
 use native.Mathlib.Nat.{add_assoc, add-zero}
-use native.Mathlib.Numerals.{add-one}
 use native.Mathlib.Omega.{arith}
-use lib.ListN.{length, get_or, set, take, length-append}
-use lib.Seq.{paste, paste-zero, paste-suc, take-paste, drop-paste, length-paste, drop-drop}
+use lib.ListN.{length, take, drop, length-append}
+use lib.Seq.{paste, paste-zero, take-paste, drop-paste, length-paste, drop-drop}
 use lib.Seq.{take-length, take-append-le, take-append-add}
 use lib.Dec.{leb}
+use borrow.Rule.Slice.PartMut.{put_mid, Post-is}
 use borrow.Author.Tests.{leb-true, leb-false}
 use Rattle.model.proofs.laws.Tests.{Tested, test, holds, fails}
 use Rattle.report.specs.Appends.{fitting, Appends}
@@ -34,33 +34,20 @@ paste_length b at xs n hb hx = go (position b at)
     go (inside l) = length-paste b at xs n (omega arith) hx
     go (past l) = let e : n ≡ 0 = omega arith in rw e (ap length (sym (paste-zero b at xs)))
 
--- The first n characters of the text were written, from the position on.
-pub record Partly (before : List ℕ) (at : ℕ) (text : List ℕ) (n : ℕ) (after : List ℕ) (r : ℕ) : Type 0 where
-  pub room : n ≤ length before - at
-  pub within : n ≤ length text
-  pub buffer : after ≡ paste before at text n
-  pub next : r ≡ at + n
+-- a text of which so much fits; one that is copied as far as it fits, and one that begins past the end
+fitted : {b : List ℕ} {at : ℕ} {text a : List ℕ} (n : ℕ) → fitting b at text ≡ n → a ≡ paste b at text n
+    → Appends (length text) b at text a (at + n)
+fitted n e h = record { short = omega arith; buffer = rw e h; next = rw e }
 
-module _ (b : List ℕ) (at : ℕ) (text : List ℕ) where
-  pub partly_none : Partly b at text 0 b at
-  partly_none = record { room = omega arith; within = omega arith; buffer = paste-zero b at text; next = omega arith }
+pub copied : (b : List ℕ) (at : ℕ) (text part : List ℕ) (n : ℕ) → at ≤ length b → n ≡ min (length text) (length b - at)
+    → part ≡ take n text → Appends (length text) b at text (put_mid at (at + n - at) b part) (at + n)
+unfolding fitting
+copied b at text part n l e h = fitted n (omega (arith, e))
+    (rw (h, Post-is at (at + n) b (omega arith)) (sym (append_assoc (take at b) (take n text) (drop (at + n) b))))
 
-  module _ {n : ℕ} {m : List ℕ} {r : ℕ} (p : Partly b at text n m r) where
-    pub partly_length : length m ≡ length b
-    partly_length = rw p.buffer (paste_length b at text n p.room p.within)
-
-    pub partly_more : n < length text → r < length m → Partly b at text (n + 1) (set m r (get_or text n 0)) (r + 1)
-    partly_more ht hm =
-        let inside : at + n < length b = omega (arith, partly_length) in
-        record {
-          room = omega arith;
-          within = omega arith;
-          buffer = rw (p.buffer, p.next, add-one n) (paste-suc b at text n 0 inside ht);
-          next = omega (arith, p.next);
-        }
-
-    pub partly_all : fitting b at text ≡ n → Appends (length text) b at text m r
-    partly_all e = record { short = omega arith; buffer = rw e p.buffer; next = rw e p.next }
+pub past_end : (b : List ℕ) (at : ℕ) (text : List ℕ) → length b ≤ at → Appends (length text) b at text b at
+unfolding fitting
+past_end b at text l = rw add-zero at (fitted {b = b} {at = at} {text = text} 0 (omega arith) (paste-zero b at text))
 
 module _ {most : ℕ} {b a text : List ℕ} {at r : ℕ} (p : Appends most b at text a r) where
   pub appended_length : length a ≡ length b
@@ -76,7 +63,7 @@ module _ {most : ℕ} {b a text : List ℕ} {at r : ℕ} (p : Appends most b at 
 
 pub nothing : (b : List ℕ) (at : ℕ) → Appends 0 b at [] b at
 unfolding fitting
-nothing b at = partly_all b at [] (partly_none b at []) (omega arith)
+nothing b at = rw add-zero at (fitted {b = b} {at = at} {text = []} 0 (omega arith) (paste-zero b at []))
 
 -- the first n of a text and the first k of the next: the first n + k of both, if the first n are all or k is 0
 take_whole : (xs ys : List ℕ) (n k : ℕ) → n ≡ length xs → take (n + k) (xs ++ ys) ≡ take n xs ++ take k ys

@@ -8,11 +8,12 @@ use lib.ListN.{length, get_or}
 use native.Mathlib.Nat.{mul-le-mul_right}
 use native.Mathlib.Omega.{arith}
 use Rattle.model.specs.declared.Entry.{Entry}
+use Rattle.model.specs.declared.Places.{Places}
 use Rattle.model.specs.declared.Topology.{Topology}
 use Rattle.model.specs.Notation.{tabulate, concat_below}
 use Rattle.model.specs.Topology.{topology_refusal}
 use Rattle.model.specs.Channel.{bodies}
-use Rattle.model.specs.State.{GlobalState}
+use Rattle.model.specs.State.{GlobalState, entries_in}
 use Rattle.model.specs.Program.{Session, report}
 use Rattle.model.proofs.laws.Lists.{tabulate_length, tabulate_at, concat_cong}
 use Rattle.model.proofs.laws.Functions.{Indices, indices, same, other}
@@ -57,6 +58,16 @@ module _ (channel : ℕ → List Entry) where
   unfolding most_entries
   all_at_most zero k h = omega arith
   all_at_most (suc n) k h = omega (arith, all_at_most n k (λ i l. h i (omega arith)), h n (omega arith))
+
+-- the line of one of the first n channels is no longer than the longest
+module _ (places : List Places) (lengths : List ℕ) (n i : ℕ) where
+  abbrev channel : ℕ → List Entry
+  channel = entries_in places lengths
+
+  pub one_channel : {b a : List ℕ} {at r : ℕ}
+      → Appends (channel_bytes (length (channel i))) b at (channel_text i (bodies (channel i))) a r → i < n
+      → Appends (channel_bytes (most_entries n channel)) b at (channel_text i (bodies (channel i))) a r
+  one_channel t l = at_most t (omega (arith, each_at_most channel n i l))
 
 -- those of an accepted topology are no longer than the longest
 pub ending_fits : (T : Topology) (s : GlobalState) (most : ℕ) → topology_refusal T ≡ none

@@ -1,32 +1,38 @@
--- Laws of bytes in hexadecimal: the first byte, and one more after others.
-use Prim.Native.Nat.{ℕ, ◌+◌, ◌<◌}
+-- Laws of bytes in hexadecimal: one more after others, none, and all.
+use Prim.Native.Nat.{ℕ, ◌+◌, ◌*◌, ◌<◌}
 use mathlib.Core.Path.{◌≡◌, refl}
 use mathlib.Core.List.{List, [], ◌∷◌, ◌++◌, append_assoc}
 use native.Mathlib.Numerals.{add-one}
+use lib.ListN.{length, get_or, take}
+use lib.Seq.{take-suc, take-length}
 use native.Mathlib.Omega.{arith}
-use lib.ListN.{length, get_or, take, length-take}
-use lib.Seq.{take-suc}
+use Rattle.report.specs.Appends.{Appends}
+use Rattle.report.specs.TextBytes.{hex_bytes_bytes}
 use Rattle.report.specs.Text.{chars}
+use Rattle.report.proofs.Appending.{nothing, at_most}
 use Rattle.report.specs.Hex.{hex_byte, spaced_bytes, hex_bytes}
 
 spaced_append : (xs ys : List ℕ) → spaced_bytes (xs ++ ys) ≡ spaced_bytes xs ++ spaced_bytes ys
 unfolding spaced_bytes
 spaced_append [] ys = refl
-spaced_append (x ∷ xs) ys = rw (spaced_append xs ys)
+spaced_append (x ∷ xs) ys = rw (spaced_append xs ys, append_assoc (chars " " ++ hex_byte x))
 
-after_others : (bs : List ℕ) (b : ℕ) → 0 < length bs
-    → hex_bytes (bs ++ (b ∷ [])) ≡ hex_bytes bs ++ chars " " ++ hex_byte b
-unfolding spaced_bytes hex_bytes
-after_others [] b l = absurd (omega arith)
-after_others (x ∷ bs) b l = rw (spaced_append bs (b ∷ [])) (simp append_assoc)
+pub spaced_more : (first bytes : List ℕ) (i : ℕ) → i < length bytes
+    → first ++ spaced_bytes (take (i + 1) bytes)
+    ≡ first ++ spaced_bytes (take i bytes) ++ chars " " ++ hex_byte (get_or bytes i 0)
+unfolding spaced_bytes
+spaced_more first bytes i inside =
+    rw (add-one i, take-suc bytes i 0 inside, spaced_append (take i bytes) (get_or bytes i 0 ∷ [])) (simp append_assoc)
 
-module _ (bytes : List ℕ) (i : ℕ) (inside : i < length bytes) where
-  pub first_byte : i ≡ 0 → hex_bytes (take (i + 1) bytes) ≡ hex_bytes (take i bytes) ++ hex_byte (get_or bytes i 0)
-  unfolding spaced_bytes hex_bytes
-  first_byte e = rw (add-one i, take-suc bytes i 0 inside, e)
+-- no bytes, and a first byte and all others
+pub hex_none : (bytes b : List ℕ) (at : ℕ) → length bytes ≡ 0
+    → Appends (hex_bytes_bytes (length bytes)) b at (hex_bytes bytes) b at
+unfolding hex_bytes
+hex_none [] b at e = nothing b at
+hex_none (x ∷ bytes) b at e = absurd (omega arith)
 
-  pub next_byte : 0 < i
-      → hex_bytes (take (i + 1) bytes) ≡ hex_bytes (take i bytes) ++ chars " " ++ hex_byte (get_or bytes i 0)
-  next_byte l =
-      rw (add-one i, take-suc bytes i 0 inside)
-      (after_others (take i bytes) (get_or bytes i 0) (omega (arith, length-take i bytes)))
+pub hex_all : {bytes others b a : List ℕ} {first k at r : ℕ} → bytes ≡ first ∷ others → k ≡ length others
+    → Appends (2 + k * 3) b at (hex_byte first ++ spaced_bytes (take k others)) a r
+    → Appends (hex_bytes_bytes (length bytes)) b at (hex_bytes bytes) a r
+unfolding hex_bytes
+hex_all {others = others} e all t = rw e (at_most (rw (all, take-length others) at t) (omega arith))

@@ -11,6 +11,16 @@ use Rattle.model.proofs.laws.Lists.{concat_more}
 use Rattle.report.specs.Appends.{fitting, Appends, WholeText}
 use Rattle.report.proofs.Appending.{nothing, ◌then◌, appended_length, at_most}
 
+-- the texts that f makes, one after the other, of at most so many bytes each: none, and one more
+module _ (most : ℕ) (f : ℕ → List ℕ) {b : List ℕ} {at : ℕ} where
+  pub none_of : Appends (0 * most) b at (concat_below 0 f) b at
+  unfolding concat_below
+  none_of = at_most (nothing b at) (omega arith)
+
+  pub one_more : (i : ℕ) {m a : List ℕ} {r s : ℕ} → Appends (i * most) b at (concat_below i f) m r
+      → Appends most m r (f i) a s → Appends ((i + 1) * most) b at (concat_below (i + 1) f) a s
+  one_more i p q = rw (concat_more i f) (at_most (p then q) (rw (add-mul i 1 most) (omega arith)))
+
 -- the first i of the n texts that f makes are appended, of at most so many bytes each: none, one more, all
 pub record Appended (most n : ℕ) (f : ℕ → List ℕ) (b : List ℕ) (at i : ℕ) (a : List ℕ) (r : ℕ) : Type 0 where
   pub within : i ≤ n
@@ -18,17 +28,12 @@ pub record Appended (most n : ℕ) (f : ℕ → List ℕ) (b : List ℕ) (at i :
 
 module _ {most n : ℕ} {f : ℕ → List ℕ} {b : List ℕ} {at : ℕ} where
   pub none_appended : Appended most n f b at 0 b at
-  unfolding concat_below
-  none_appended = record { within = omega arith; text = at_most (nothing b at) (omega arith) }
+  none_appended = record { within = omega arith; text = none_of most f }
 
   module _ {i : ℕ} {m : List ℕ} {r : ℕ} (p : Appended most n f b at i m r) where
     pub one_appended : {a : List ℕ} {s : ℕ} → i < n → Appends most m r (f i) a s
         → Appended most n f b at (i + 1) a s
-    one_appended l q =
-        record {
-          within = omega arith;
-          text = rw (concat_more i f) (at_most (p.text then q) (rw (add-mul i 1 most) (omega arith)));
-        }
+    one_appended l q = record { within = omega arith; text = one_more most f i p.text q }
 
     pub all_appended : n ≤ i → Appends (n * most) b at (concat_below n f) m r
     all_appended l = let e : n ≡ i = omega (arith, p.within) in rw e p.text

@@ -4,9 +4,9 @@ ghost use Rattle.std.specs.Prelude.{◌≡◌, ◌*◌, ◌<◌};
 ghost use Rattle.model.specs.Layout.{store_cells};
 ghost use Rattle.report.specs.Appends.{Appends};
 ghost use Rattle.report.specs.TextBytes.{cell_bytes};
-ghost use Rattle.report.specs.Changed.{start_cell, start_store, changed_text};
+ghost use Rattle.report.specs.Changed.{start_cell, start_store, changed_line, changed_text};
 
-use crate::cell_line;
+use crate::{cell_line, each};
 use rules::layout::STORE_CELLS;
 use rules::word::MODULUS;
 
@@ -15,20 +15,26 @@ fn start_cell(i: usize) -> u32
     requires { i < store_cells }
     ensures { result ≡ start_cell i }
 {
-    let product = 2654435761 * (i as u64);
-    (product % MODULUS) as u32
+    (2654435761 * (i as u64) % MODULUS) as u32
 }
 
 // The store at first.
 pub fn fill(store: &mut [u32; STORE_CELLS])
     ensures { store.new ≡ start_store }
 {
-    let cells: &mut [u32] = store;
-    let mut i: usize = 0;
-    while i < STORE_CELLS {
-        cells[i] = start_cell(i);
-        i += 1;
+    *store = std::array::from_fn(start_cell);
+}
+
+// A cell's line, if it differs.
+fn differing(store: &[u32; STORE_CELLS], out: &mut [u8], at: usize, i: usize) -> usize
+    requires { i < store_cells }
+    ensures { Appends cell_bytes out.old at (changed_line store.now i) out.new result }
+{
+    let value = store[i];
+    if value == start_cell(i) {
+        return at;
     }
+    cell_line(out, at, i as u32, value)
 }
 
 // A line for each cell that differs.
@@ -36,14 +42,10 @@ pub fn changed(store: &[u32; STORE_CELLS], out: &mut [u8], at: usize) -> usize
     ensures { Appends (store_cells * cell_bytes) out.old at
         (changed_text store.now) out.new result }
 {
-    let mut next = at;
-    let mut i: usize = 0;
-    while i < STORE_CELLS {
-        let value = store[i];
-        if value != start_cell(i) {
-            next = cell_line(out, next, i as u32, value);
-        }
-        i += 1;
-    }
-    next
+    each(
+        out,
+        at,
+        STORE_CELLS,
+        |out, at, i| differing(store, out, at, i),
+    )
 }

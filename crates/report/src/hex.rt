@@ -8,11 +8,12 @@ ghost use Rattle.report.specs.TextBytes.{sent_bytes, refused_bytes};
 ghost use Rattle.report.specs.Hex.{hex_digit, hex_byte, hex_bytes, plan_line_text, call_text, kept_text, last_text};
 ghost use Rattle.report.specs.Hex.{sent_text, refused_text};
 
-use crate::{decimal, last};
+use crate::{decimal, named};
 use model::Refusal;
 use rules::refusal::number;
 
 // The character of a hexadecimal digit.
+#[tactic(auto, unfolding(crate::specs::Hex::hex_digit))]
 fn hex_digit(d: u8) -> u8
     requires { d < 16 }
     ensures { result ≡ hex_digit d }
@@ -24,8 +25,7 @@ fn hex_digit(d: u8) -> u8
 fn hex_byte(out: &mut [u8], at: usize, b: u8) -> usize
     ensures { Appends 2 out.old at (hex_byte b) out.new result }
 {
-    let digits = [hex_digit(b / 16), hex_digit(b % 16)];
-    crate::bytes(out, at, &digits)
+    crate::bytes(out, at, &[hex_digit(b / 16), hex_digit(b % 16)])
 }
 
 // Bytes in hexadecimal, with one space between.
@@ -33,14 +33,13 @@ fn hex_bytes(out: &mut [u8], at: usize, bytes: &[u8]) -> usize
     ensures { Appends (hex_bytes_bytes (length bytes.now)) out.old at
         (hex_bytes bytes.now) out.new result }
 {
-    let mut next = at;
-    let mut i = 0;
-    while i < bytes.len() {
-        if i > 0 {
-            next = crate::bytes(out, next, b" ");
-        }
-        next = hex_byte(out, next, bytes[i]);
-        i += 1;
+    let Some((&first, others)) = bytes.split_first() else {
+        return at;
+    };
+    let mut next = hex_byte(out, at, first);
+    for &byte in others {
+        next = crate::bytes(out, next, b" ");
+        next = hex_byte(out, next, byte);
     }
     next
 }
@@ -78,9 +77,8 @@ pub fn sent_line(out: &mut [u8], at: usize, bytes: &[u8], number: u32, room: u8)
     ensures { Appends (sent_bytes (length bytes.now)) out.old at
         (sent_text bytes.now number room) out.new result }
 {
-    let opened = call(out, at, bytes, number);
-    let next = crate::bytes(out, opened, b" sent");
-    last(out, next, room as u32)
+    let next = call(out, at, bytes, number);
+    named(out, next, b" sent", &[room as u32])
 }
 
 // The line for a list that is refused with no call shown.
@@ -88,8 +86,7 @@ pub fn refused_line(out: &mut [u8], at: usize, r: Refusal) -> usize
     ensures { Appends refused_bytes out.old at
         (refused_text (refusal_number r)) out.new result }
 {
-    let next = crate::bytes(out, at, b"refused");
-    last(out, next, number(r) as u32)
+    named(out, at, b"refused", &[number(r) as u32])
 }
 
 // The line of the last kept call, with its refusal.
