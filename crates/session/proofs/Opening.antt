@@ -1,22 +1,28 @@
 -- Laws of the whole of a session: the plan is refused, or the requests are served from what initialize leaves, and the
 -- last lines printed.
 use Prim.Native.Nat.{ℕ, ◌+◌, ◌*◌, ◌≤◌}
-use mathlib.Core.Path.{◌≡◌}
+use mathlib.Core.Path.{◌≡◌, ◌∙◌}
+use Rattle.std.proofs.Common.{rules}
+use Rattle.std.specs.Prelude.{Result, Ok, Err, IsOk}
 use mathlib.Core.List.{List}
 use mathlib.Core.Option.{none, some, or_else}
 use lib.ListN.{length, take, drop, length-take, length-drop}
 use borrow.Author.Tests.{le-ltb}
 use native.Mathlib.Omega.{arith}
+use Rattle.model.specs.declared.Refusal.{Refusal}
+use Rattle.model.specs.declared.State.{State}
 use Rattle.model.specs.declared.Topology.{Topology}
 use Rattle.model.specs.Check.{first_refusal}
 use Rattle.model.specs.Topology.{topology_refusal}
 use Rattle.model.specs.Layout.{store_cells}
 use Rattle.model.specs.State.{GlobalState}
-use Rattle.model.specs.Start.{initialize_refusal, initialize}
+use Rattle.model.specs.Outcome.{refusal_number}
+use Rattle.model.specs.Start.{startup_or, initialize}
 use Rattle.model.specs.Program.{BudgetSource, given, input_bytes, plan_length, plan_refusal}
 use Rattle.model.specs.Program.{session_from, session_of, played_of, played}
 use Rattle.model.specs.Recover as recovery
 use Rattle.plan.proofs.PlanReads.{Passes}
+use Rattle.recovery.specs.Starts.{Starts}
 use Rattle.report.specs.Appends.{Appends}
 use Rattle.report.specs.Ending.{ending_text, ending_bytes}
 use Rattle.report.specs.TextBytes.{plan_refused_bytes, cell_bytes}
@@ -28,11 +34,15 @@ use Rattle.session.specs.Drill.{drill_text}
 use Rattle.session.specs.Output.{played_bytes, MayRun, Plays, plan_played}
 use Rattle.session.specs.Serving.{Prints}
 
--- initialize isn't refused, which is why nothing looks at its answer
-pub starts : {T : Topology} {records store : List ℕ} → MayRun T records store
-    → initialize_refusal T (length store) ≡ none
-unfolding recovery.initialize_refusal first_refusal or_else
-starts {store} may = rw (may.accepted, le-ltb (length store) store_cells may.cells)
+-- initialize isn't refused
+module _ {T : Topology} {records store : List ℕ} (may : MayRun T records store) where
+  ready : (initialize T store).refusal ≡ none
+  unfolding initialize startup_or recovery.initialize_refusal first_refusal or_else
+  ready = rw (may.accepted, le-ltb (length store) store_cells may.cells)
+
+  pub starts : {left : List ℕ} (r : Result State Refusal) → Starts (initialize T store) r left → IsOk r
+  starts (Ok s) m = search rules
+  starts (Err e) m = let none_is : some (refusal_number e) ≡ none = m.start ∙ ready in cc
 
 -- what is played of a plan that passed: its parts one after the other
 module _ (source : BudgetSource) (T : Topology) (store records : List ℕ) {s : GlobalState} {started : List ℕ}

@@ -1,56 +1,30 @@
--- Laws of reading a request: what the answer to a reading says of it.
-use Prim.Native.Nat.{ℕ}
-use mathlib.Core.Path.{◌≡◌, refl, ◌∙◌}
-use mathlib.Core.List.{List}
-use mathlib.Core.Option.{none, some}
+-- Laws of reading a request: no budget, no record after it, or both.
+use Rattle.std.proofs.Common.{◌≡◌, ℕ, List, Result, Ok, Err, Some, None, sym}
+use Rattle.std.specs.Result.{result_ok}
+use Rattle.std.proofs.Math.Option.{none, some}
 use Rattle.model.specs.declared.Record.{Record}
-use Rattle.model.specs.Record.{Reading}
-use Rattle.model.specs.Program.{BudgetSource, Request, read_request}
-use Rattle.model.proofs.laws.RecordLaws.{both, same}
-use Rattle.record.specs.RecordRead.{remaining}
-use Rattle.session.specs.declared.request.Budget.TheVariants as budget
-use Rattle.session.specs.declared.request.RequestRead.TheVariants as request
-use Rattle.session.specs.RequestRead.{budgeted, requested, after_request}
-
--- nothing was read
-pub no_budget : (x : Reading ℕ) → budgeted x ≡ budget.Malformed → x ≡ none
-unfolding budgeted
-no_budget none e = refl
-no_budget (some r) e = cc
-
-pub no_request : (x : Reading Request) → requested x ≡ request.Malformed → x ≡ none
-unfolding requested
-no_request none e = refl
-no_request (some r) e = cc
-
--- this was read, and what remains comes after it
-module _ (bytes : List ℕ) where
-  pub a_budget : (x : Reading ℕ) {b : ℕ} → budgeted x ≡ budget.Lasts b → x ≡ some (b, remaining x bytes)
-  unfolding budgeted remaining
-  a_budget none e = cc
-  a_budget (some (a, rest)) e = cc
-
-  a_request : (x : Reading Request) {r : Record} {b : ℕ} → requested x ≡ request.Read r b
-      → x ≡ some (record { content = r; budget = b }, remaining x bytes)
-  unfolding requested remaining
-  a_request none e = cc
-  a_request (some (q, rest)) {r} {b} e =
-      let content : q.content ≡ r = cc in
-      let lasts : q.budget ≡ b = cc in
-      λ i. some (record { content = content i; budget = lasts i }, rest)
+use Rattle.model.specs.declared.Refusal.{Refusal}
+use Rattle.model.specs.Record.{and_then, read_record}
+use Rattle.model.specs.Program.{BudgetSource, read_budget, read_request}
+use Rattle.record.specs.RecordRead.{record_said, record_in, remaining}
+use Rattle.record.proofs.Answered.{no_record, a_record}
 
 module _ (source : BudgetSource) (bytes : List ℕ) where
-  after_request_lem : (q : Request) (after : List ℕ) → read_request source bytes ≡ some (q, after)
-      → after_request source bytes ≡ after
-  unfolding read_request remaining
-  after_request_lem q after e =
-      let (b, rest, budget, later) = both _ _ (q, after) e in
-      let (r, last, content, end) = both _ _ (q, after) later in
-      rw (budget, content) (same end).rest
+  pub no_budget : none ≡ read_budget source bytes → none ≡ read_request source bytes
+  unfolding read_request and_then
+  no_budget e = rw (← e)
 
-  pub read_whole : {r : Record} {b : ℕ} {after : List ℕ} → requested (read_request source bytes) ≡ request.Read r b
-      → after ≡ after_request source bytes
-      → read_request source bytes ≡ some (record { content = r; budget = b }, after)
-  read_whole e rest =
-      let read = a_request bytes (read_request source bytes) e in
-      read ∙ rw (rest, after_request_lem _ _ read)
+  module _ {content : List ℕ} {b : ℕ} (lasts : some (b, content) ≡ read_budget source bytes) where
+    pub no_content : (x : Result Record Refusal) → None ≡ result_ok x → record_said x ≡ record_in (read_record content)
+        → none ≡ read_request source bytes
+    unfolding read_request and_then
+    no_content (Ok r) k e = cc
+    no_content (Err x) k e = rw (← lasts, no_record (read_record content) (sym e))
+
+    pub a_request : (x : Result Record Refusal) {r : Record} {rest : List ℕ} → Some r ≡ result_ok x
+        → record_said x ≡ record_in (read_record content) → rest ≡ remaining (read_record content) content
+        → some (record { content = r; budget = b }, rest) ≡ read_request source bytes
+    unfolding read_request and_then
+    a_request (Ok x) {r} k e h =
+        let same : x ≡ r = cc in rw (← lasts, a_record content (read_record content) (sym e), h, same)
+    a_request (Err x) k e h = cc

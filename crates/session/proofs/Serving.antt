@@ -1,16 +1,16 @@
 -- Laws of serving one request: a step's answer, a recover that is ready, one that is refused.
-use Prim.Native.Nat.{ℕ, ◌+◌}
-use mathlib.Core.Path.{◌≡◌, refl, sym, ◌∙◌}
+use Prim.Native.Nat.{ℕ}
+use mathlib.Core.Path.{refl}
+use Rattle.std.specs.Prelude.{Ok, Err}
 use mathlib.Core.List.{List}
-use mathlib.Core.Option.{none, some}
 use Rattle.model.specs.declared.Answer.{Answer}
-use Rattle.model.specs.declared.Started.{Started}
+use Rattle.model.specs.declared.Refusal.{Refusal}
 use Rattle.model.specs.declared.State.{State}
 use Rattle.model.specs.declared.Step.{Step}
 use Rattle.model.specs.declared.Record.TheVariants.{Call, Recover}
 use Rattle.model.specs.declared.Topology.{Topology}
 use Rattle.model.specs.State.{view}
-use Rattle.model.specs.Outcome.{line, refused, said_by, start_refusal}
+use Rattle.model.specs.Outcome.{line, refused, said_by, refusal_number}
 use Rattle.model.specs.Start.{recover, line_or, recover_said, state_or}
 use Rattle.model.specs.Program.{serve, of_answer, of_startup}
 use Rattle.engine.specs.Answers.{Answers}
@@ -19,10 +19,7 @@ use Rattle.report.specs.Appends.{Appends}
 use Rattle.report.specs.TextBytes.{line_bytes}
 use Rattle.report.specs.Text.{said_line}
 use Rattle.session.specs.declared.serve.Cursor.{Cursor}
-use Rattle.session.specs.Serving.{served, Serves}
-
-abbrev next : Cursor → ℕ → State → Cursor
-next cursor at s = record { number = cursor.number + 1; at = at; state = s }
+use Rattle.session.specs.Serving.{next, served, Serves}
 
 module _ (T : Topology) (cursor : Cursor) {before after : List ℕ} {r : ℕ} where
   pub step_served : (x : Step) (store : List ℕ) (budget : ℕ) {a : Answer} {left : List ℕ}
@@ -33,18 +30,16 @@ module _ (T : Topology) (cursor : Cursor) {before after : List ℕ} {r : ℕ} wh
   step_served x store budget m t =
       record { text = rw (← m.outcome, ← m.made) t; number = refl; state = m.state; store = m.store }
 
-  module _ (store : List ℕ) (budget : ℕ) {x : Started} (s : Starts (recover T store) x store) where
-    pub recover_served : start_refusal x.start ≡ none
-        → Appends line_bytes before cursor.at (said_line cursor.number (line x.state.round.line) 0) after r
-        → Serves cursor (served T cursor store budget Recover) before after (next cursor r x.state) store
-    unfolding serve of_startup line_or recover_said state_or view
-    recover_served e t =
-        rw (sym s.start ∙ e)
-        (record { text = rw (← s.state) t; number = refl; state = s.state; store = s.store })
+  pub recover_served : (store : List ℕ) {s : State} → Starts (recover T store) (Ok s) store
+      → Appends line_bytes before cursor.at (said_line cursor.number (line s.round.line) 0) after r
+      → Serves cursor (served T cursor store 0 Recover) before after (next cursor r s) store
+  unfolding serve of_startup line_or recover_said state_or view
+  recover_served store m t =
+      rw (← m.start) (record { text = rw (← m.state) t; number = refl; state = m.state; store = m.store })
 
-    pub recover_refused : {n : ℕ} → start_refusal x.start ≡ some n
-        → Appends line_bytes before cursor.at (said_line cursor.number (refused n) 0) after r
-        → Serves cursor (served T cursor store budget Recover) before after (next cursor r cursor.state) store
-    unfolding serve of_startup line_or recover_said state_or
-    recover_refused e t =
-        rw (sym s.start ∙ e) (record { text = t; number = refl; state = refl; store = s.store })
+  pub recover_refused : (store : List ℕ) {e : Refusal} → Starts (recover T store) (Err e) store
+      → Appends line_bytes before cursor.at (said_line cursor.number (refused (refusal_number e)) 0) after r
+      → Serves cursor (served T cursor store 0 Recover) before after (next cursor r cursor.state) store
+  unfolding serve of_startup line_or recover_said state_or
+  recover_refused store m t =
+      rw (← m.start) (record { text = t; number = refl; state = refl; store = m.store })

@@ -1,6 +1,7 @@
 -- What the functions that serve requests and print their lines promise.
 use Rattle.std.specs.Prelude.{ℕ, ◌+◌, ◌≡◌, List}
 use Rattle.model.specs.declared.Record.{Record}
+use Rattle.model.specs.declared.State.{State}
 use Rattle.model.specs.declared.Topology.{Topology}
 use Rattle.model.specs.State.{GlobalState, view}
 use Rattle.model.specs.Program.{Served, Session, serve}
@@ -9,6 +10,10 @@ use Rattle.report.specs.TextBytes.{line_bytes}
 use Rattle.report.specs.Text.{line_text, lines_text}
 use Rattle.session.specs.declared.serve.Cursor.{Cursor}
 use Rattle.session.specs.Output.{requests_bytes}
+
+-- the next place, after a line that ends at `at`
+abbrev pub next : Cursor → ℕ → State → Cursor
+next cursor at s = record { number = cursor.number + 1; at = at; state = s }
 
 -- what is said of a record at this place of the session
 abbrev pub served : Topology → Cursor → List ℕ → ℕ → Record → Served

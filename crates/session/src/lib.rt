@@ -1,5 +1,6 @@
 // The work of the programs `head` and `drill`: one function from the input's bytes to the output's bytes each. They
-// differ only in where a call's budget comes from, in the store at first, and in what is printed of it.
+// differ in where a call's budget comes from, in the store at first, and in what is printed of it, and are two, since
+// each promises a text of its own (`head_text`, `drill_text`); what they share is `play`.
 #![tactic(auto)]
 
 mod play;

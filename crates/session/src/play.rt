@@ -7,10 +7,10 @@ ghost use Rattle.session.specs.RequestRead.{source_of};
 
 use crate::request::BudgetSource;
 use crate::serve;
-use model::{Topology, Verdict};
+use model::Topology;
 
 // With a plan that passed its checks, and the bytes after it. Initialize isn't refused then (`starts` of
-// proofs/Opening.antt), so nothing looks whether it is.
+// proofs/Opening.antt).
 fn run(
     source: BudgetSource,
     topology: Topology,
@@ -22,11 +22,9 @@ fn run(
     ensures { Plays (plan_played (source_of source) topology store.old records.now)
         out.old out.new result store.new }
 {
-    let started = engine::initialize(topology, store);
-    let state = started.state;
+    let state = engine::initialize(topology, store).unwrap();
     let cursor = serve::requests(source, topology, state, records, store, out);
-    let last = cursor.state;
-    report::ending::print(topology, last, out, cursor.at)
+    report::ending::print(topology, cursor.state, out, cursor.at)
 }
 
 pub fn play(source: BudgetSource, input: &[u8], store: &mut [u32], out: &mut [u8]) -> usize
@@ -35,12 +33,8 @@ pub fn play(source: BudgetSource, input: &[u8], store: &mut [u32], out: &mut [u8
         out.old out.new result store.new }
 {
     let bytes = plan::taken(input);
-    let reading = plan::read(bytes);
-    let verdict = reading.verdict;
-    if let Verdict::Refuse(r) = verdict {
-        return report::plan_refused(out, 0, r);
+    match plan::read(bytes) {
+        Ok(topology) => run(source, topology, plan::rest(bytes), store, out),
+        Err(refusal) => report::plan_refused(out, 0, refusal),
     }
-    let topology = reading.topology;
-    let records = plan::rest(bytes);
-    run(source, topology, records, store, out)
 }

@@ -1,78 +1,44 @@
 // A request: a record, and the write budget that it is called with.
 ghost use Rattle.std.specs.Prelude.{◌≡◌};
 ghost use Rattle.model.specs.Program.{read_budget, read_request};
-ghost use Rattle.session.specs.RequestRead.{source_of, budgeted, requested, after_budget, after_request};
+ghost use Rattle.record.specs.Reads.{reading_of};
+ghost use Rattle.session.specs.RequestRead.{source_of, requested};
 
 use model::{FULL_BUDGET, Record};
-use record::RecordRead;
 
 // Where a call's budget comes from: full current, or 4 bytes before each record.
+// It is a kind and no closure: what `play` and `requests` promise names the definitions' own kind.
 #[derive(Clone, Copy)]
 pub enum BudgetSource {
     Full,
     Given,
 }
 
-// How many bytes a given budget has.
-const BUDGET_BYTES: usize = 4;
-
 #[derive(Clone, Copy)]
-enum Budget {
-    Lasts(u32),
-    Malformed,
+pub struct Request {
+    pub record: Record,
+    pub budget: u32,
 }
 
-// What bytes begin with: a request, or refusal 7.
-#[derive(Clone, Copy)]
-pub enum RequestRead {
-    Read(Record, u32),
-    Malformed,
-}
-
-// The budget that the bytes begin with, lowest byte first.
-fn budget_of(source: BudgetSource, bytes: &[u8]) -> Budget
-    ensures { result ≡ budgeted (read_budget (source_of source) bytes.now) }
+// The budget that the bytes begin with, lowest byte first, and the bytes after it.
+#[tactic(auto, unfolding(model::specs::Program::read_budget, model::specs::Record::read_body))]
+fn budget(source: BudgetSource, bytes: &[u8]) -> Option<(u32, &[u8])>
+    ensures { reading_of result ≡ read_budget (source_of source) bytes.now }
 {
     if let BudgetSource::Full = source {
-        return Budget::Lasts(FULL_BUDGET);
+        return Some((FULL_BUDGET, bytes));
     }
-    if bytes.len() < BUDGET_BYTES {
-        return Budget::Malformed;
-    }
-    Budget::Lasts(record::word(bytes[0], bytes[1], bytes[2], bytes[3]))
-}
-
-// The bytes after the budget.
-fn record_bytes(source: BudgetSource, bytes: &[u8]) -> &[u8]
-    ensures { result.now ≡ after_budget (source_of source) bytes.now }
-{
-    if let BudgetSource::Full = source {
-        return bytes;
-    }
-    if bytes.len() < BUDGET_BYTES {
-        return bytes;
-    }
-    &bytes[BUDGET_BYTES..]
-}
-
-// The request that the bytes begin with.
-pub fn read(source: BudgetSource, bytes: &[u8]) -> RequestRead
-    ensures { result ≡ requested (read_request (source_of source) bytes.now) }
-{
-    let Budget::Lasts(budget) = budget_of(source, bytes) else {
-        return RequestRead::Malformed;
+    let [a, b, c, d, rest @ ..] = bytes else {
+        return None;
     };
-    let content = record_bytes(source, bytes);
-    let RecordRead::Read(record) = record::read(content) else {
-        return RequestRead::Malformed;
-    };
-    RequestRead::Read(record, budget)
+    Some((u32::from_le_bytes([*a, *b, *c, *d]), rest))
 }
 
-// The bytes after that request.
-pub fn rest(source: BudgetSource, bytes: &[u8]) -> &[u8]
-    ensures { result.now ≡ after_request (source_of source) bytes.now }
+// The request that the bytes begin with, and the bytes after it. Where there is none, that is refusal 7.
+pub fn read(source: BudgetSource, bytes: &[u8]) -> Option<(Request, &[u8])>
+    ensures { requested result ≡ read_request (source_of source) bytes.now }
 {
-    let content = record_bytes(source, bytes);
-    record::rest(content)
+    let (budget, content) = budget(source, bytes)?;
+    let record = record::read(content).ok()?;
+    Some((Request { record, budget }, record::rest(content)))
 }

@@ -1,21 +1,36 @@
 // The requests of a session, each served and its line printed.
-ghost use Rattle.std.specs.Prelude.{◌≤◌, length};
+ghost use Rattle.std.specs.Prelude.{◌≡◌, ◌≤◌, length};
 ghost use Rattle.model.specs.declared.Record.TheVariants.{Recover};
 ghost use Rattle.model.specs.State.{view};
 ghost use Rattle.model.specs.Program.{input_bytes, session_from};
 ghost use Rattle.session.specs.RequestRead.{source_of};
-ghost use Rattle.session.specs.Serving.{served, Serves, Prints};
+ghost use Rattle.session.specs.Serving.{next, served, Serves, Prints};
 
 use crate::request;
-use crate::request::{BudgetSource, RequestRead};
-use model::{Outcome, Record, Refusal, Start, State, Topology};
+use crate::request::{BudgetSource, Request};
+use model::{Outcome, Record, Refusal, State, Topology};
 
 // Where a session stands: the number of its next line, where that goes, and the state that its request is served in.
+// Store and buffer are lent beside it: a struct that held the two would have each method promise that it keeps both.
 #[derive(Clone, Copy)]
 pub struct Cursor {
     pub number: u32,
     pub at: usize,
     pub state: State,
+}
+
+impl Cursor {
+    // The next place, after a line that ends at `at`.
+    fn next(self, at: usize, state: State) -> Cursor
+        requires { self.number ≤ input_bytes }
+        ensures { result ≡ next self at state }
+    {
+        Cursor {
+            number: self.number + 1,
+            at,
+            state,
+        }
+    }
 }
 
 // A recover. Where it is refused, the state is kept.
@@ -24,28 +39,15 @@ fn recover(topology: Topology, cursor: Cursor, store: &[u32], out: &mut [u8]) ->
     ensures { Serves cursor (served topology cursor store.now 0 Recover)
         out.old out.new result store.now }
 {
-    let number = cursor.number;
-    let started = recovery::recover(topology, store);
-    let start = started.start;
-    match start {
-        Start::Ready => {
-            let state = started.state;
-            let round = state.round;
-            let at = report::recover_line(out, cursor.at, number, round.line, 0);
-            Cursor {
-                number: number + 1,
-                at,
-                state,
-            }
+    match recovery::recover(topology, store) {
+        Ok(state) => {
+            let at = report::recover_line(out, cursor.at, cursor.number, state.round.line, 0);
+            cursor.next(at, state)
         }
-        Start::Refused(r) => {
-            let at = report::outcome_line(out, cursor.at, number, Outcome::Refused(r), 0);
-            let state = cursor.state;
-            Cursor {
-                number: number + 1,
-                at,
-                state,
-            }
+        Err(refusal) => {
+            let refused = Outcome::Refused(refusal);
+            let at = report::outcome_line(out, cursor.at, cursor.number, refused, 0);
+            cursor.next(at, cursor.state)
         }
     }
 }
@@ -54,28 +56,20 @@ fn recover(topology: Topology, cursor: Cursor, store: &[u32], out: &mut [u8]) ->
 fn serve(
     topology: Topology,
     cursor: Cursor,
-    record: Record,
-    budget: u32,
+    request: Request,
     store: &mut [u32],
     out: &mut [u8],
 ) -> Cursor
     requires { cursor.number ≤ input_bytes }
-    ensures { Serves cursor (served topology cursor store.old budget «record»)
+    ensures { Serves cursor (served topology cursor store.old request.budget request.«record»)
         out.old out.new result store.new }
 {
-    let Record::Call(step) = record else {
+    let Record::Call(step) = request.record else {
         return recover(topology, cursor, store, out);
     };
-    let number = cursor.number;
-    let answer = engine::step(cursor.state, step, store, budget);
-    let outcome = answer.outcome;
-    let at = report::outcome_line(out, cursor.at, number, outcome, answer.made);
-    let next = answer.state;
-    Cursor {
-        number: number + 1,
-        at,
-        state: next,
-    }
+    let answer = engine::step(cursor.state, step, store, request.budget);
+    let at = report::outcome_line(out, cursor.at, cursor.number, answer.outcome, answer.made);
+    cursor.next(at, answer.state)
 }
 
 // All requests that the bytes hold, in order. A 7 ends the reading after its line, the end of the bytes without one.
@@ -98,17 +92,15 @@ pub fn requests(
         state,
     };
     let mut left = bytes;
-    while 0 < left.len() {
-        let RequestRead::Read(record, budget) = request::read(source, left) else {
+    // No `for`: where the next request begins is known once this one is read, and a 7 prints a line before it ends all.
+    while !left.is_empty() {
+        let Some((request, rest)) = request::read(source, left) else {
             let refused = Outcome::Refused(Refusal::Malformed);
-            let at = report::outcome_line(out, cursor.at, cursor.number, refused, 0);
-            cursor.at = at;
+            cursor.at = report::outcome_line(out, cursor.at, cursor.number, refused, 0);
             break;
         };
-        let after = request::rest(source, left);
-        left = after;
-        let next = serve(topology, cursor, record, budget, store, out);
-        cursor = next;
+        cursor = serve(topology, cursor, request, store, out);
+        left = rest;
     }
     cursor
 }
