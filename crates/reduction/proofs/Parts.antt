@@ -1,21 +1,20 @@
--- Laws of parts: an array whose first places are filled, and a list without a block of its places.
-use Prim.Native.Nat.{ℕ, ◌+◌, ◌-◌, ◌<◌, ◌≤◌}
-use mathlib.Core.Path.{◌≡◌, refl, sym, ap, ◌∙◌}
-use mathlib.Core.List.{List, map}
-use lib.ListN.{length, get_or, set, take, drop, replicate, length-append, length-take, length-drop, length-replicate}
-use lib.ListN.{length-set, length-map, get_or-append, get_or-map, get_or-eq_default}
-use lib.Seq.{ext_get_or, take_at, get_or-take, get_or-drop, get_or-append-add, length-take-le}
-use lib.Dec.{ltb}
+-- Laws of parts: an array that is filled place by place, and a list without a block of its places.
+use Rattle.std.proofs.Common.{◌≡◌, ℕ, suc, ◌+◌, ◌-◌, ◌<◌, ◌≤◌, List, [], ◌∷◌, ◌++◌, length, get_or, set}
+use Rattle.std.proofs.Common.{take, drop}
+use Rattle.std.proofs.Common.{replicate, ltb, refl, sym, ap, ◌∙◌, append_assoc, add-one, arith}
+use Rattle.std.proofs.Common.{length-append, length-take, length-drop}
+use Rattle.std.proofs.lemmas.List.{take_more}
+use lib.ListN.{length-map, get_or-append, get_or-map, get_or-eq_default}
+use lib.Seq.{take_at, get_or-take, get_or-drop, get_or-append-add, length-take-le, set-append_seam}
 use borrow.Author.Tests.{le-ltb, ltb-true, ltb-false}
-use native.Mathlib.Omega.{arith}
-use Rattle.model.specs.declared.CallList.{CallList}
+use Rattle.model.specs.declared.Record.{Record}
 use Rattle.model.specs.declared.Record.TheVariants.{Recover}
 use Rattle.model.specs.Notation.{tabulate}
-use Rattle.model.specs.CallList.{list_limit, call_at}
-use Rattle.model.specs.Reduction.{Rising}
+use Rattle.model.specs.CallList.{list_limit}
+use Rattle.model.specs.Reduction.{Rising, calls_at}
 use Rattle.model.proofs.laws.Tests.{Tested, test, holds, fails}
 use Rattle.model.proofs.laws.Lists.{tabulate_length, tabulate_at}
-use Rattle.model.proofs.laws.Functions.{seen_replicate, filled_below, filled_none, filled_more, get_d_within}
+use Rattle.model.proofs.laws.Functions.{seen_replicate, get_d_within}
 use Rattle.reduction.specs.declared.part.Part.{Part}
 use Rattle.reduction.specs.Parts.{kept, padded, part_of, Held, without_block, past}
 
@@ -29,10 +28,6 @@ numbers_length n = tabulate_length n (λ i. i)
 pub numbers_at : (n i : ℕ) → i < n → get_or (numbers n) i 0 ≡ i
 numbers_at n i l = tabulate_at n (λ i. i) i 0 l
 
--- what the places after these hold
-abbrev unused : List ℕ → List ℕ
-unused xs = replicate (list_limit - length xs) 0
-
 -- an array that begins with these numbers has them, and 0 past them
 pub padded_at : (xs : List ℕ) (i : ℕ) → get_or (padded xs) i 0 ≡ get_or xs i 0
 padded_at xs i = go (test (ltb i (length xs)))
@@ -41,14 +36,42 @@ padded_at xs i = go (test (ltb i (length xs)))
     go (holds t) = get_or-append xs _ 0 i (ltb-true _ _ t)
     go (fails t) =
         let past_end : i ≡ length xs + (i - length xs) = omega (arith, ltb-false i (length xs) t) in
-        ap (λ (m : ℕ). get_or (padded xs) m 0) past_end ∙ get_or-append-add xs (unused xs) (i - length xs) 0
+        ap (λ (m : ℕ). get_or (padded xs) m 0) past_end
+        ∙ get_or-append-add xs (replicate (list_limit - length xs) 0) (i - length xs) 0
         ∙ ap (λ (f : ℕ → ℕ). f (i - length xs)) (seen_replicate (list_limit - length xs) 0)
         ∙ sym (get_or-eq_default xs 0 {n = i} (ltb-false i (length xs) t))
+
+-- an array that begins with these numbers, with one more written after them
+pub one_padded : (xs : List ℕ) (i v : ℕ) → length xs ≡ i → i < list_limit
+    → set (padded xs) i v ≡ padded (xs ++ (v ∷ []))
+one_padded xs i v e l =
+    let more : list_limit - length xs ≡ suc (list_limit - (length xs + 1)) = omega (arith, e) in
+    rw (← e, more, length-append xs (v ∷ []), append_assoc xs (v ∷ []))
+    (set-append_seam xs 0 (replicate (list_limit - (length xs + 1)) 0) v)
+
+-- one more of the numbers, or of another list's places, written; and all of them
+pub numbers_more : (i : ℕ) → i < list_limit → set (padded (numbers i)) i i ≡ padded (numbers (i + 1))
+unfolding tabulate
+numbers_more i l = rw add-one (one_padded (numbers i) i i (numbers_length i) l)
+
+pub places_more : (xs : List ℕ) (i : ℕ) → i < length xs → length xs ≤ list_limit
+    → set (padded (take i xs)) i (get_or xs i 0) ≡ padded (take (i + 1) xs)
+places_more xs i l few =
+    rw (take_more xs i 0 l) (one_padded (take i xs) i (get_or xs i 0) (length-take-le i xs (omega arith)) (omega arith))
+
+pub places_all : (xs : List ℕ) {places : List ℕ} {count : ℕ} → places ≡ padded xs → count ≡ length xs
+    → record { places = places; count = count } ≡ part_of xs
+unfolding part_of
+places_all xs e n = rw (e, n)
 
 -- the places that a held part keeps
 pub kept_holding : (xs : List ℕ) → kept (part_of xs) ≡ xs
 unfolding part_of
-kept_holding xs = take_at xs (unused xs) (length xs) refl
+kept_holding xs = take_at xs (replicate (list_limit - length xs) 0) (length xs) refl
+
+pub held_holding : (xs : List ℕ) → length xs ≤ list_limit → Held (part_of xs)
+unfolding part_of
+held_holding xs l = record { within = l; whole = ap part_of (sym (kept_holding xs)) }
 
 -- how many they are, and what stands at one of them
 module _ {part : Part} (h : Held part) where
@@ -59,61 +82,15 @@ module _ {part : Part} (h : Held part) where
   pub kept_at : (i : ℕ) → i < part.count → get_or (kept part) i 0 ≡ get_or part.places i 0
   kept_at i l = get_or-take part.count part.places i 0 l
 
-  -- its calls are no more than a list can have
-  pub held_calls : (list : CallList) → length (map (call_at list) (kept part)) ≤ list_limit
-  held_calls list = simp length-map (rw kept_length h.within)
+  -- how many calls it has, and the i-th of them, as the code finds it
+  pub calls_length : (calls : List Record) → length (calls_at calls (kept part)) ≡ part.count
+  calls_length calls = simp length-map kept_length
 
-  -- the i-th call of the part, as the code finds it
-  pub call_at_lem : (list : CallList) (i : ℕ) → i < part.count
-      → get_or (map (call_at list) (kept part)) i Recover ≡ call_at list (get_or part.places i 0)
-  call_at_lem list i l =
-      let within : i < length (map (call_at list) (kept part)) = simp length-map (rw kept_length l) in
-      get_d_within (map (call_at list) (kept part)) i Recover (call_at list 0) within
-      ∙ get_or-map (call_at list) (kept part) i 0 ∙ ap (call_at list) (kept_at i l)
-
-pub held_holding : (xs : List ℕ) → length xs ≤ list_limit → Held (part_of xs)
-unfolding part_of
-held_holding xs l = record { within = l; whole = ap part_of (sym (kept_holding xs)) }
-
--- an array with the first i of the places xs, and 0 past them: none, one more, all
-pub record Filled (xs places : List ℕ) (i : ℕ) : Type 0 where
-  pub within : i ≤ length xs
-  pub room : length places ≡ list_limit
-  pub filled : (λ (j : ℕ). get_or places j 0) ≡ filled_below i (λ j. get_or xs j 0) 0
-
-module _ {xs : List ℕ} where
-  pub none_filled : Filled xs (replicate list_limit 0) 0
-  none_filled =
-      record { within = omega arith; room = refl; filled = seen_replicate list_limit 0 ∙ filled_none _ 0 }
-
-  module _ {places : List ℕ} {i : ℕ} (p : Filled xs places i) where
-    pub one_filled : {v : ℕ} → i < length xs → i < length places → v ≡ get_or xs i 0
-        → Filled xs (set places i v) (i + 1)
-    one_filled l room e =
-        record {
-          within = omega arith;
-          room = simp length-set p.room;
-          filled = filled_more (λ x. x) places 0 _ i _ 0 room p.filled e;
-        }
-
-    pub all_filled : length xs ≤ i → length xs ≤ list_limit → places ≡ padded xs
-    all_filled l few =
-        let at_end : i ≡ length xs = omega (arith, p.within) in
-        let seen = rw at_end at p.filled in
-        let whole : length xs + length (unused xs) ≡ list_limit = simp length-replicate (omega arith) in
-        ext_get_or 0 places (padded xs)
-        (p.room ∙ sym (length-append xs (unused xs) ∙ whole))
-        (λ j k. ap (λ (f : ℕ → ℕ). f j) seen ∙ (below_end j (test (ltb j (length xs))) ∙ sym (padded_at xs j)))
-      where
-        below_end : (j : ℕ) → Tested (ltb j (length xs))
-            → filled_below (length xs) (λ k. get_or xs k 0) 0 j ≡ get_or xs j 0
-        below_end j (holds t) = rw t
-        below_end j (fails t) = rw t (sym (get_or-eq_default xs 0 {n = j} (ltb-false j (length xs) t)))
-
-    pub part_filled : {count : ℕ} → length xs ≤ i → length xs ≤ list_limit → count ≡ length xs
-        → record { places = places; count = count } ≡ part_of xs
-    unfolding part_of
-    part_filled l few e = rw (all_filled l few, e)
+  pub call_found : (calls : List Record) (i : ℕ) → i < part.count
+      → get_or (calls_at calls (kept part)) i Recover ≡ get_or calls (get_or part.places i 0) Recover
+  call_found calls i l =
+      get_d_within (calls_at calls (kept part)) i Recover (get_or calls 0 Recover) (rw calls_length l)
+      ∙ get_or-map (λ k. get_or calls k Recover) (kept part) i 0 ∙ ap (λ k. get_or calls k Recover) (kept_at i l)
 
 -- past a gap, places are within the list, and rise
 pub past_within : (from gap n i : ℕ) → i < n - gap → past from gap i < n

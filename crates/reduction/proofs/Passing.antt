@@ -1,26 +1,20 @@
 -- Laws of a pass over a part: how it starts, goes on and ends, and that a pass over single calls which leaves none out
 -- shows that the part is a smallest one.
-use Prim.Native.Nat.{ℕ, ◌+◌, ◌-◌, ◌<◌, ◌≤◌}
-use mathlib.Core.Path.{◌≡◌, sym, ap, ◌∙◌}
-use mathlib.Core.List.{List, [], ◌∷◌}
-use mathlib.Core.Logic.{◌⊎◌, inl, inr}
+use Rattle.std.proofs.Common.{◌≡◌, ℕ, ◌+◌, ◌-◌, ◌<◌, ◌≤◌, ◌⊎◌, List, [], ◌∷◌, length, get_or, ltb, leb, sym, ap, ◌∙◌}
+use Rattle.std.proofs.Common.{inl, inr, arith}
 use mathlib.Core.Option.{some-ne-none}
-use lib.ListN.{length, get_or}
-use lib.Dec.{ltb, leb}
 use borrow.Author.Tests.{lt-ltb, ltb-true, ltb-false, leb-true, leb-false}
-use native.Mathlib.Omega.{arith}
 use Rattle.model.specs.declared.Topology.{Topology}
 use Rattle.model.specs.declared.Record.{Record}
-use Rattle.model.specs.declared.CallList.{CallList}
-use Rattle.model.specs.declared.Refusal.{Refusal}
 use Rattle.model.specs.Run.{trace}
-use Rattle.model.specs.Outcome.{refusal_number}
-use Rattle.model.specs.CallList.{listed, Failure, replies, first_from, first_failure}
-use Rattle.model.specs.Reduction.{Fails, left_out, Smallest}
+use Rattle.model.specs.CallList.{Failure, replies, first_from, first_failure}
+use Rattle.model.specs.Reduction.{Fails, left_out}
 use Rattle.model.proofs.laws.Tests.{Tested, test, holds, fails}
 use Rattle.reduction.specs.declared.part.Part.{Part}
+use Rattle.reduction.specs.declared.search.Search.{Search}
 use Rattle.reduction.specs.Parts.{kept, without_block}
-use Rattle.reduction.specs.Passes.{last_failure, Failing, LostFrom, Tried, Passed}
+use Rattle.reduction.specs.Replays.{failure_of}
+use Rattle.reduction.specs.Passes.{FailsAs, Failing, LostFrom, Tried, Passed, Found}
 use Rattle.reduction.proofs.Parts.{kept_length, without_length, without_at}
 
 -- a part that fails has a call
@@ -30,21 +24,13 @@ unfolding first_failure replies trace first_from
 some_call {part = []} p = absurd (some-ne-none _ (sym p.failure))
 some_call {part = x ∷ xs} p = omega arith
 
-module _ {T : Topology} {list : CallList} {f : Failure} where
-  pub part_count : {part : Part} → Failing T list f part → 0 < part.count
-  part_count p = rw (← kept_length p.held) (some_call p.fails)
+module _ {s : Search} where
+  module _ {part : Part} (p : Failing s part) where
+    pub part_count : 0 < part.count
+    part_count = rw (← kept_length p.held) (some_call p.fails)
 
-  -- the failure that its last call stands for
-  pub last_failure_lem : {part : Part} → Failing T list f part → (r : Refusal) → f.number ≡ refusal_number r
-      → last_failure part r ≡ f
-  last_failure_lem {part} p r e =
-      let place : get_or (kept part) (part.count - 1) 0 ≡ f.place =
-      ap (λ (n : ℕ). get_or (kept part) (n - 1) 0) (sym (kept_length p.held)) ∙ p.fails.last in
-      rw (place, e)
-
-  module _ {part : Part} (p : Failing T list f part) where
     -- without its last call a part doesn't end as it must
-    lost_last : (i : ℕ) → i + 1 ≡ part.count → Fails T (listed list) f (left_out i (kept part)) → ⊥
+    lost_last : (i : ℕ) → i + 1 ≡ part.count → FailsAs s (left_out i (kept part)) → ⊥
     lost_last i e q =
         let xs : List ℕ = kept part in
         let whole : length xs ≡ i + 1 = kept_length p.held ∙ sym e in
@@ -53,30 +39,34 @@ module _ {T : Topology} {list : CallList} {f : Failure} where
         let some_left : 0 < i = rw fewer at (some_call q) in
         let before : get_or (left_out i xs) (i - 1) 0 ≡ get_or xs (i - 1) 0 =
         without_at xs i (i + 1) (omega arith) (omega (arith, whole)) (i - 1) ∙ rw (lt-ltb (i - 1) i (omega arith)) in
-        let there : get_or xs (i - 1) 0 ≡ f.place =
+        let there : get_or xs (i - 1) 0 ≡ (failure_of s.first).place =
         sym before ∙ (ap (λ (n : ℕ). get_or (left_out i xs) (n - 1) 0) (sym fewer) ∙ q.last) in
-        let here : get_or xs i 0 ≡ f.place = ap (λ (n : ℕ). get_or xs n 0) (omega (arith, whole)) ∙ p.fails.last in
+        let here : get_or xs i 0 ≡ (failure_of s.first).place =
+        ap (λ (n : ℕ). get_or xs n 0) (omega (arith, whole)) ∙ p.fails.last in
         omega (arith, p.fails.rising (i - 1) i (omega arith) (omega (arith, whole)), there, here)
 
-    pub smallest : LostFrom T list f part 0 → Smallest T (listed list) f (kept part)
-    smallest lost = record { fails = p.fails; lost = λ i l q. go i l q (test (ltb (i + 1) part.count)) }
+    pub found : LostFrom s part 0 → Found s part
+    found lost =
+        record {
+          held = p.held;
+          smallest = record { fails = p.fails; lost = λ i l q. go i l q (test (ltb (i + 1) part.count)) };
+        }
       where
-        go : (i : ℕ) → i < length (kept part) → Fails T (listed list) f (left_out i (kept part))
-            → Tested (ltb (i + 1) part.count) → ⊥
+        go : (i : ℕ) → i < length (kept part) → FailsAs s (left_out i (kept part)) → Tested (ltb (i + 1) part.count)
+            → ⊥
         go i l q (holds t) = lost i (omega arith) (ltb-true (i + 1) part.count t) q
         go i l q (fails t) =
             lost_last i (omega (arith, kept_length p.held, ltb-false (i + 1) part.count t)) q
 
 -- in a pass over blocks of this size: from the place to on, the blocks were tried
-pub record Passing (T : Topology) (list : CallList) (f : Failure) (whole : Part) (size : ℕ) (part : Part) (to : ℕ)
-    : Type 0 where
-  pub failing : Failing T list f part
+pub record Passing (s : Search) (whole : Part) (size : ℕ) (part : Part) (to : ℕ) : Type 0 where
+  pub failing : Failing s part
   pub before : to < part.count
   pub fewer : part.count ≤ whole.count
-  pub lost : size ≡ 1 → part.count ≡ whole.count → LostFrom T list f part to
+  pub lost : size ≡ 1 → part.count ≡ whole.count → LostFrom s part to
 
-module _ {T : Topology} {list : CallList} {f : Failure} {whole : Part} {size : ℕ} where
-  pub pass_starts : Failing T list f whole → Passing T list f whole size whole (whole.count - 1)
+module _ {s : Search} {whole : Part} {size : ℕ} where
+  pub pass_starts : Failing s whole → Passing s whole size whole (whole.count - 1)
   pass_starts p =
       record {
         failing = p;
@@ -85,8 +75,8 @@ module _ {T : Topology} {list : CallList} {f : Failure} {whole : Part} {size : �
         lost = λ one all i l k q. absurd (omega arith);
       }
 
-  module _ {part : Part} {to : ℕ} (p : Passing T list f whole size part to) where
-    pub pass_ends : to ≤ 0 → Passed T list f whole size part
+  module _ {part : Part} {to : ℕ} (p : Passing s whole size part to) where
+    pub pass_ends : to ≤ 0 → Passed s whole size part
     pass_ends e =
         record {
           failing = p.failing;
@@ -94,13 +84,13 @@ module _ {T : Topology} {list : CallList} {f : Failure} {whole : Part} {size : �
           lost = λ one all i l k q. p.lost one all i (omega arith) k q;
         }
 
-    pub pass_goes_on : {r : Part} → 0 < to → 1 ≤ size → Tried T list f part (to - size) to r
-        → Passing T list f whole size r (to - size)
-    pass_goes_on {r} l s t = go t.either
+    pub pass_goes_on : {r : Part} → 0 < to → 1 ≤ size → Tried s part (to - size) to r
+        → Passing s whole size r (to - size)
+    pass_goes_on {r} l o t = go t.either
       where
         go : (r.count ≡ part.count - (to - (to - size)))
-            ⊎ ((r ≡ part) × (Fails T (listed list) f (without_block (to - size) to (kept part)) → ⊥))
-            → Passing T list f whole size r (to - size)
+            ⊎ ((r ≡ part) × (FailsAs s (without_block (to - size) to (kept part)) → ⊥))
+            → Passing s whole size r (to - size)
         go (inl e) =
             record {
               failing = t.failing;
@@ -118,7 +108,7 @@ module _ {T : Topology} {list : CallList} {f : Failure} {whole : Part} {size : �
             })
           where
             here : size ≡ 1 → part.count ≡ whole.count → (i : ℕ) → to - size ≤ i → i + 1 < part.count
-                → Fails T (listed list) f (left_out i (kept part)) → Tested (leb to i) → ⊥
+                → FailsAs s (left_out i (kept part)) → Tested (leb to i) → ⊥
             here one all i h k q (holds b) = p.lost one all i (leb-true to i b) k q
             here one all i h k q (fails b) =
                 let at : i ≡ to - size = omega (arith, leb-false to i b) in

@@ -1,28 +1,25 @@
 -- Laws of a run of calls from a state and a store on, one call after the other, up to the first that is refused.
-use Prim.Native.Nat.{ℕ, suc, ◌+◌, ◌<◌, ◌≤◌}
-use mathlib.Core.Path.{◌≡◌, refl, sym, ap, ◌∙◌}
-use mathlib.Core.List.{List, [], ◌∷◌, ◌++◌, map, append-nil, append_assoc}
-use mathlib.Core.Option.{Option, none, some}
-use lib.ListN.{length, get_or, set, drop, replicate, length-append, length-map, drop_of_length-le, get_or-map}
-use lib.Seq.{drop-cons, get_or-append-add}
-use native.Mathlib.Omega.{arith}
-use native.Mathlib.Numerals.{add-one}
+use Rattle.std.proofs.Common.{◌≡◌, ℕ, suc, ◌+◌, ◌<◌, ◌≤◌, List, [], ◌∷◌, ◌++◌, map, length, get_or, set, drop}
+use Rattle.std.proofs.Common.{replicate, refl, sym, ap, ◌∙◌, append_assoc, append-nil, add-one, length-append}
+use Rattle.std.specs.Prelude.{Result, Ok, Err, Some, None}
+use mathlib.Core.Option.{none, some}
+use lib.ListN.{length-map, drop_of_length-le, get_or-map}
+use lib.Seq.{drop-cons}
 use Rattle.model.specs.declared.Record.{Record}
 use Rattle.model.specs.declared.Record.TheVariants.{Recover}
 use Rattle.model.specs.declared.Refusal.{Refusal}
 use Rattle.model.specs.declared.State.{State}
 use Rattle.model.specs.declared.Topology.{Topology}
-use Rattle.model.specs.Outcome.{refusal_number, refused_with, room_said}
+use Rattle.model.specs.Outcome.{refusal_number, refusal_of, refused_with, room_said}
 use Rattle.model.specs.State.{view}
-use Rattle.model.specs.Program.{Served, full_budget, serve}
+use Rattle.model.specs.Program.{full_budget, serve}
 use Rattle.model.specs.Run.{Call, World, Reply, reply_to, next, trace}
 use Rattle.model.specs.ProgramsAreRuns.{call_with}
 use Rattle.model.specs.CallList.{list_limit, first_from, rooms_of}
 use Rattle.model.proofs.laws.CallLists.{served, fails_here, fails_later, rooms_end, rooms_go_on}
-use Rattle.reduction.specs.declared.replay.End.TheVariants.{Refused, Through}
 use Rattle.reduction.specs.Parts.{padded}
 use Rattle.reduction.specs.Replays.{start_world, replies_from, Replays}
-use Rattle.reduction.proofs.Parts.{Filled, none_filled, one_filled, all_filled}
+use Rattle.reduction.proofs.Parts.{one_padded}
 use Rattle.reduction.proofs.Turning.{Turns}
 
 abbrev full : List Record → List Call
@@ -35,12 +32,11 @@ pub record Replaying (T : Topology) (calls : List Record) (all : List Reply) (s 
   pub world : World
   pub state_is : world.state ≡ view s
   pub store_is : world.store ≡ store
-  pub within : i ≤ length calls
   pub later : first_from i (trace T world (drop i (full calls))) ≡ first_from 0 all
   pub earlier : List ℕ
   pub counted : length earlier ≡ i
   pub rooms : earlier ++ rooms_of (trace T world (drop i (full calls))) ≡ rooms_of all
-  pub filled : Filled (rooms_of all) places i
+  pub filled : places ≡ padded earlier
 
 pub replay_starts : {T : Topology} {calls : List Record} {s : State} {store : List ℕ}
     → Replaying T calls (replies_from T s store calls) s store (replicate list_limit 0) 0
@@ -49,39 +45,31 @@ replay_starts {s = s} {store} =
       world = start_world s store;
       state_is = refl;
       store_is = refl;
-      within = omega arith;
       later = refl;
       earlier = [];
       counted = refl;
       rooms = refl;
-      filled = none_filled;
+      filled = refl;
     }
 
 module _ {T : Topology} {calls : List Record} {all : List Reply} {s : State} {store places : List ℕ} {i : ℕ}
     (p : Replaying T calls all s store places i) where
   -- no more is said of room than the array has
-  module _ (few : length calls ≤ list_limit) (None-more : rooms_of (trace T p.world (drop i (full calls))) ≡ []) where
-    so_far : p.earlier ≡ rooms_of all
-    so_far = sym (rw None-more (append-nil p.earlier)) ∙ p.rooms
+  rooms_filled : rooms_of (trace T p.world (drop i (full calls))) ≡ [] → places ≡ padded (rooms_of all)
+  rooms_filled e =
+      let whole : p.earlier ≡ rooms_of all = rw (e, append-nil p.earlier) at p.rooms in p.filled ∙ ap padded whole
 
-    rooms_filled : places ≡ padded (rooms_of all)
-    rooms_filled =
-        all_filled p.filled (rw (← so_far, p.counted) (omega arith))
-        (rw (← so_far, p.counted) (omega (arith, p.within)))
-
-  pub replay_ends : length calls ≤ list_limit → length calls ≤ i
-      → Replays all (record { end = Through; rooms = places })
+  pub replay_ends : length calls ≤ i → Replays all (record { refused = None; rooms = places })
   unfolding trace first_from rooms_of
-  replay_ends few l =
+  replay_ends l =
       let over : drop i (full calls) ≡ [] = drop_of_length-le (full calls) {i = i} (rw length-map l) in
       record {
         end = sym (ap (λ (cs : List Call). first_from i (trace T p.world cs)) over) ∙ p.later;
-        rooms = rooms_filled few (ap (λ (cs : List Call). rooms_of (trace T p.world cs)) over);
+        rooms = rooms_filled (ap (λ (cs : List Call). rooms_of (trace T p.world cs)) over);
       }
 
-  module _ (l : i < length calls) {content : Record} (here : get_or calls i Recover ≡ content) {refusal : Option ℕ}
-      {room : ℕ} {t : State} {left : List ℕ}
-      (m : Turns (serve T (view s) store full_budget content) refusal room t left) where
+  module _ (l : i < length calls) {content : Record} (here : get_or calls i Recover ≡ content) {r : Result ℕ Refusal}
+      {t : State} {left : List ℕ} (m : Turns (serve T (view s) store full_budget content) r t left) where
     abbrev c : Call
     c = call_with full_budget content
 
@@ -103,68 +91,50 @@ module _ {T : Topology} {calls : List Record} {all : List Reply} {s : State} {st
         }
     replied = rw (← p.state_is, ← p.store_is) (served T p.world full_budget content)
 
+    turned : Turns (record {
+      said = (reply_to T p.world c).outcome;
+      made = (reply_to T p.world c).made;
+      state = (next T p.world c).state;
+      store = (next T p.world c).store;
+    }) r t left
+    turned = rw replied at m
+
     from_here : first_from i (trace T p.world (c ∷ others)) ≡ first_from 0 all
     from_here = ap (λ (cs : List Call). first_from i (trace T p.world cs)) (sym splits) ∙ p.later
 
-    refusal_is : refusal ≡ refused_with (reply_to T p.world c).outcome
-    refusal_is = m.refused ∙ ap (λ (x : Served). refused_with x.said) replied
-
-    pub replay_fails : length calls ≤ list_limit → (r : Refusal) → refusal ≡ some (refusal_number r)
-        → Replays all (record { end = Refused i r; rooms = places })
-    replay_fails few r e =
-        let turned : refused_with (reply_to T p.world c).outcome ≡ some (refusal_number r) = sym refusal_is ∙ e in
+    pub replay_fails : {n : Refusal} → r ≡ Err n
+        → Replays all (record { refused = Some (record { place = i; refusal = n }); rooms = places })
+    unfolding refusal_of
+    replay_fails {n} e =
+        let refused : refused_with (reply_to T p.world c).outcome ≡ some (refusal_number n) =
+        sym turned.says.refusal ∙ rw e in
         record {
-          end = sym (fails_here T i p.world c others (refusal_number r) turned) ∙ from_here;
+          end = sym (fails_here T i p.world c others (refusal_number n) refused) ∙ from_here;
           rooms =
-              rooms_filled few
+              rooms_filled
               (ap (λ (cs : List Call). rooms_of (trace T p.world cs)) splits
-              ∙ rooms_end T p.world c others turned);
+              ∙ rooms_end T p.world c others refused);
         }
 
     -- an accepted call
-    module _ (few : length calls ≤ list_limit) (e : refusal ≡ none) where
-      accepted : refused_with (reply_to T p.world c).outcome ≡ none
-      accepted = sym refusal_is ∙ e
-
-      room_is_lem : room ≡ room_said (reply_to T p.world c).outcome
-      room_is_lem = m.room_is ∙ ap (λ (x : Served). room_said x.said) replied
-
-      abbrev more : List ℕ
-      more = rooms_of (trace T (next T p.world c) others)
-
-      said_more : p.earlier ++ (room ∷ more) ≡ rooms_of all
-      said_more =
-          ap (λ (xs : List ℕ). p.earlier ++ xs)
-          (sym (ap (λ (cs : List Call). rooms_of (trace T p.world cs)) splits
-          ∙ (rooms_go_on T p.world c others accepted ∙ ap (λ (n : ℕ). n ∷ more) (sym room_is_lem))))
-          ∙ p.rooms
-
-      room_at : room ≡ get_or (rooms_of all) i 0
-      room_at =
-          let end : i ≡ length p.earlier + 0 = omega (arith, p.counted) in
-          rw (← said_more)
-          (sym (ap (λ (n : ℕ). get_or (p.earlier ++ (room ∷ more)) n 0) end
-          ∙ get_or-append-add p.earlier (room ∷ more) 0 0))
-
-      room_within : i < length (rooms_of all)
-      room_within =
-          rw (← said_more, length-append p.earlier (room ∷ more)) (omega (arith, p.counted))
-
-      pub replay_goes_on : Replaying T calls all t left (set places i room) (i + 1)
-      replay_goes_on =
-          record {
-            world = next T p.world c;
-            state_is = sym (m.state ∙ ap (λ (x : Served). x.state) replied);
-            store_is = sym (m.store ∙ ap (λ (x : Served). x.store) replied);
-            within = omega arith;
-            later =
-                ap (λ (n : ℕ). first_from (i + 1) (trace T (next T p.world c) (drop n (full calls)))) (add-one i)
-                ∙ (sym (fails_later T i p.world c others accepted) ∙ from_here);
-            earlier = p.earlier ++ (room ∷ []);
-            counted = length-append p.earlier (room ∷ []) ∙ rw p.counted;
-            rooms =
-                append_assoc p.earlier (room ∷ []) _
-                ∙ (ap (λ (n : ℕ). p.earlier ++ (room ∷ rooms_of (trace T (next T p.world c) (drop n (full calls)))))
-                (add-one i) ∙ said_more);
-            filled = one_filled p.filled room_within (omega (arith, p.filled.room)) room_at;
-          }
+    pub replay_goes_on : i < list_limit → {room : ℕ} → r ≡ Ok room
+        → Replaying T calls all t left (set places i room) (i + 1)
+    unfolding refusal_of
+    replay_goes_on few {room} e =
+        let w : World = next T p.world c in
+        let accepted : refused_with (reply_to T p.world c).outcome ≡ none = sym turned.says.refusal ∙ rw e in
+        let said : room ≡ room_said (reply_to T p.world c).outcome = rw e at turned.says.room in
+        let more : rooms_of (trace T p.world (drop i (full calls))) ≡ room ∷ rooms_of (trace T w others) =
+        rw (splits, rooms_go_on T p.world c others accepted, ← said) in
+        record {
+          world = w;
+          state_is = sym turned.state;
+          store_is = sym turned.store;
+          later =
+              ap (λ (n : ℕ). first_from (i + 1) (trace T w (drop n (full calls)))) (add-one i)
+              ∙ (sym (fails_later T i p.world c others accepted) ∙ from_here);
+          earlier = p.earlier ++ (room ∷ []);
+          counted = length-append p.earlier (room ∷ []) ∙ rw p.counted;
+          rooms = rw (add-one, append_assoc p.earlier (room ∷ []), ← more) p.rooms;
+          filled = rw p.filled (one_padded p.earlier i room p.counted few);
+        }

@@ -1,46 +1,31 @@
--- Laws of parts that fail: a part of the list, what a replay tells of it, and a part without a block.
-use Prim.Native.Nat.{ℕ, suc, ◌+◌, ◌-◌, ◌<◌, ◌≤◌}
-use mathlib.Core.Path.{◌≡◌, refl, sym, ap, ◌∙◌}
-use mathlib.Core.Bool.{Bool, true, false}
-use mathlib.Core.List.{List, [], ◌∷◌, map}
+-- Laws of parts that fail: what a replay tells of a part, and a part without a block.
+use Rattle.std.proofs.Common.{◌≡◌, ℕ, ◌+◌, ◌-◌, ◌<◌, ◌≤◌, Bool, true, false, List, length, get_or, eqb}
+use Rattle.std.proofs.Common.{refl, sym, ap, ◌∙◌, arith, rules}
 use mathlib.Core.Option.{Option, none, some}
-use lib.ListN.{length, get_or}
-use lib.Dec.{eqb}
-use borrow.Author.Tests.{eqb-true, eq-eqb}
-use native.Mathlib.Omega.{arith}
-use Rattle.model.specs.declared.Topology.{Topology}
-use Rattle.model.specs.declared.Record.TheVariants.{Recover}
-use Rattle.model.specs.declared.CallList.{CallList}
-use Rattle.model.specs.CallList.{call_at, listed, Failure, first_failure}
-use Rattle.model.specs.Reduction.{calls_at, Rising, Fails}
-use Rattle.model.proofs.laws.Tests.{true_is_not_false, and_left, and_right, and_both}
-use Rattle.model.proofs.laws.Functions.{Indices, same, other, indices}
-use Rattle.model.proofs.laws.Lists.{tabulate_at}
+use borrow.Author.Tests.{eqb-true, eq-eqb, ne_eqb}
+use denote.Enum.Bare.{sameb, same_true, same_false}
+use Rattle.model.specs.declared.Refusal.{Refusal}
+use Rattle.model.specs.contracts.Refusal.{the_type}
+use Rattle.model.specs.CallList.{Failure, first_failure}
+use Rattle.model.specs.Outcome.{refusal_number}
+use Rattle.model.specs.Reduction.{calls_at}
+use Rattle.model.proofs.laws.Tests.{Tested, test, holds, fails, true_is_not_false, and_left, and_right, and_both}
+use Rattle.model.proofs.ToldApart.{told_apart}
 use Rattle.reduction.specs.declared.part.Part.{Part}
+use Rattle.reduction.specs.declared.search.Search.{Search}
 use Rattle.reduction.specs.Parts.{kept, part_of, Held, without_block}
-use Rattle.reduction.specs.Replays.{calls, ends_with}
-use Rattle.reduction.specs.Passes.{Failing}
+use Rattle.reduction.specs.Replays.{failure_of, ends_with}
+use Rattle.reduction.specs.Passes.{FailsAs, Failing}
 use Rattle.reduction.proofs.Parts.{kept_holding, kept_length, held_holding, without_length, without_rising}
 use Rattle.reduction.proofs.Parts.{without_last}
 
--- places that rise up to one below n are all below n
-pub below : (n : ℕ) (xs : List ℕ) → Rising xs → get_or xs (length xs - 1) 0 < n
-    → (i : ℕ) → i < length xs → get_or xs i 0 < n
-below n xs rising last i l = go (indices i (length xs - 1))
+-- refusals are the same where their numbers are
+pub same_number : (a b : Refusal) → sameb the_type a b ≡ eqb (refusal_number a) (refusal_number b)
+same_number a b = go (test (sameb the_type a b))
   where
-    go : Indices i (length xs - 1) → get_or xs i 0 < n
-    go (same e) = rw e last
-    go (other e) = omega (arith, last, rising i (length xs - 1) (omega (arith, e)) (omega arith))
-
--- the calls at such places, by the list's array and by its calls
-pub calls_at_lem : (list : CallList) (xs : List ℕ) → ((i : ℕ) → i < length xs → get_or xs i 0 < list.count)
-    → map (call_at list) xs ≡ calls_at (listed list) xs
-unfolding listed
-calls_at_lem list [] h = refl
-calls_at_lem list (x ∷ xs) h =
-    let here : get_or (listed list) x Recover ≡ call_at list x =
-    tabulate_at list.count (call_at list) x Recover (h 0 (omega arith)) in
-    rw (here, calls_at_lem list xs (λ i l. h (suc i) (omega arith)))
+    go : Tested (sameb the_type a b) → sameb the_type a b ≡ eqb (refusal_number a) (refusal_number b)
+    go (holds t) = t ∙ sym (eq-eqb _ _ (ap refusal_number (same_true the_type (search rules) a b t)))
+    go (fails t) = t ∙ sym (ne_eqb _ _ (λ e. same_false the_type a b t (told_apart.refusals a b e)))
 
 -- what the test of a replay says
 abbrev last_one : ℕ → ℕ → Failure
@@ -64,8 +49,7 @@ test_fails x count n l e q =
     true_is_not_false sure (rw q at e)
 
 -- a part without a block before its last call, and what the replay of it tells
-module _ {T : Topology} {list : CallList} {f : Failure} {part : Part} (p : Failing T list f part) {from to : ℕ}
-    (h : from ≤ to) (k : to < part.count) where
+module _ {s : Search} {part : Part} (p : Failing s part) {from to : ℕ} (h : from ≤ to) (k : to < part.count) where
   abbrev rest : List ℕ
   rest = without_block from to (kept part)
 
@@ -75,41 +59,34 @@ module _ {T : Topology} {list : CallList} {f : Failure} {part : Part} (p : Faili
   rest_length : length rest ≡ part.count - (to - from)
   rest_length = without_length (kept part) from to h inside ∙ rw (kept_length p.held)
 
-  rest_last : get_or rest (length rest - 1) 0 ≡ f.place
+  rest_last : get_or rest (length rest - 1) 0 ≡ (failure_of s.first).place
   rest_last = without_last (kept part) from to h inside (rw (kept_length p.held) k) ∙ p.fails.last
 
-  rest_rising : Rising rest
-  rest_rising = without_rising (kept part) from to h inside p.fails.rising
-
   module _ {q : Part} (e : q ≡ part_of rest) where
-    count_is : q.count ≡ length rest
-    unfolding part_of
-    count_is = ap (λ (x : Part). x.count) e
-
-    replayed : first_failure T (calls list q) ≡ first_failure T (calls_at (listed list) rest)
-    replayed =
-        rw (
-          e,
-          kept_holding rest,
-          calls_at_lem list rest (below list.count rest rest_rising (rw rest_last p.listed_place)),
-        )
+    same : kept q ≡ rest
+    same = rw e (kept_holding rest)
 
     pub fewer_held : Held q
     fewer_held = rw e (held_holding rest (rw rest_length (omega (arith, p.held.within))))
 
     pub fewer_count : q.count ≡ part.count - (to - from)
-    fewer_count = count_is ∙ rest_length
+    fewer_count = sym (kept_length fewer_held) ∙ rw same rest_length
 
-    module _ {t : Bool} (tested : t ≡ ends_with (first_failure T (calls list q)) q.count f.number) where
-      pub fewer_fails : t ≡ true → Failing T list f q
-      fewer_fails s =
-          let found = test_holds _ _ _ (sym tested ∙ s) in
-          let all : Fails T (listed list) f rest =
-          record { rising = rest_rising; last = rest_last; failure = rw count_is at (sym replayed ∙ found) } in
-          let same : kept q ≡ rest = rw e (kept_holding rest) in
-          record { held = fewer_held; listed_place = p.listed_place; fails = rw same all }
+    module _ {t : Bool} (tested : t ≡ ends_with (first_failure s.topology (calls_at s.list.now (kept q))) q.count
+        (refusal_number s.first.refusal)) where
+      pub fewer_fails : t ≡ true → Failing s q
+      fewer_fails y =
+          let found = test_holds _ _ _ (sym tested ∙ y) in
+          record {
+            held = fewer_held;
+            fails = record {
+              rising = rw same (without_rising (kept part) from to h inside p.fails.rising);
+              last = rw same rest_last;
+              failure = rw (kept_length fewer_held) found;
+            };
+          }
 
-      pub fewer_lost : t ≡ false → Fails T (listed list) f rest → ⊥
-      fewer_lost s all =
-          let found = replayed ∙ all.failure ∙ ap (λ (n : ℕ). some (last_one n f.number)) (sym count_is) in
-          test_fails _ _ _ (rw fewer_count (omega arith)) (sym tested ∙ s) found
+      pub fewer_lost : t ≡ false → FailsAs s rest → ⊥
+      fewer_lost y all =
+          test_fails _ _ _ (rw fewer_count (omega arith)) (sym tested ∙ y)
+          (rw (same, fewer_count) (rw rest_length at all.failure))

@@ -1,41 +1,32 @@
 -- Laws of the part that a list starts with: all calls of it, and those up to its first failure, which fails as the list
 -- does.
-use Prim.Native.Nat.{ℕ, zero, suc, ◌+◌, ◌-◌, ◌<◌, ◌≤◌}
-use mathlib.Core.Path.{◌≡◌, refl, sym, ap, ◌∙◌}
-use mathlib.Core.List.{List, [], ◌∷◌, map}
+use Rattle.std.proofs.Common.{◌≡◌, ℕ, zero, suc, ◌+◌, ◌-◌, ◌<◌, ◌≤◌, List, [], ◌∷◌, map, length, get_or, take}
+use Rattle.std.proofs.Common.{replicate}
+use Rattle.std.proofs.Common.{refl, sym, ap, ◌∙◌, arith}
 use mathlib.Core.Option.{Option, none, some, some-ne-none}
-use lib.ListN.{length, get_or, take, replicate, length-map}
-use lib.Seq.{ext_get_or, get_or-take, length-take-le}
-use native.Mathlib.Omega.{arith}
+use lib.ListN.{length-map}
+use lib.Seq.{ext_get_or, get_or-take, length-take-le, take-length}
 use Rattle.model.specs.declared.Topology.{Topology}
 use Rattle.model.specs.declared.Record.{Record}
 use Rattle.model.specs.declared.Record.TheVariants.{Recover}
-use Rattle.model.specs.declared.CallList.{CallList}
 use Rattle.model.specs.Outcome.{refused_with}
 use Rattle.model.specs.Layout.{store_cells}
 use Rattle.model.specs.Program.{full_budget}
 use Rattle.model.specs.Run.{Call, World, reply_to, next, trace, first_world}
 use Rattle.model.specs.ProgramsAreRuns.{call_with}
-use Rattle.model.specs.CallList.{call_at, listed, list_limit, Failure, failure_or, first_from, replies, first_failure}
+use Rattle.model.specs.CallList.{list_limit, Failure, failure_or, first_from, replies, first_failure}
 use Rattle.model.specs.Reduction.{calls_at, Fails}
 use Rattle.model.proofs.laws.Lists.{tabulate_length, map_tabulate, tabulate_at}
 use Rattle.reduction.specs.declared.part.Part.{Part}
-use Rattle.reduction.specs.Parts.{part_of, Held}
-use Rattle.reduction.specs.Replays.{calls}
+use Rattle.reduction.specs.Parts.{kept, part_of, Held}
+use Rattle.reduction.specs.declared.search.Search.{Search}
+use Rattle.reduction.specs.Replays.{failure_of}
 use Rattle.reduction.specs.Passes.{Failing}
 use Rattle.reduction.proofs.Parts.{numbers, numbers_length, numbers_at, kept_holding, held_holding}
-
-pub listed_length : (list : CallList) → length (listed list) ≡ list.count
-unfolding listed
-listed_length list = tabulate_length list.count (call_at list)
 
 -- the part of so many calls, and of all
 pub held_places : {part : Part} {n : ℕ} → n ≤ list_limit → part ≡ part_of (numbers n) → Held part
 held_places {n = n} l e = rw e (held_holding (numbers n) (rw (numbers_length n) l))
-
-pub all_calls : (list : CallList) {part : Part} → part ≡ part_of (numbers list.count) → calls list part ≡ listed list
-unfolding listed
-all_calls list e = rw (e, kept_holding (numbers list.count)) (map_tabulate (call_at list) list.count (λ i. i))
 
 first_calls : (cs : List Record) (n : ℕ) → n ≤ length cs → calls_at cs (numbers n) ≡ take n cs
 first_calls cs n l =
@@ -44,6 +35,9 @@ first_calls cs n l =
     (λ i k.
     let below : i < n = rw (tabulate_length n (λ i. get_or cs i Recover)) at k in
     tabulate_at n (λ i. get_or cs i Recover) i Recover below ∙ sym (get_or-take n cs i Recover below))
+
+pub all_calls : (cs : List Record) {part : Part} → part ≡ part_of (numbers (length cs)) → calls_at cs (kept part) ≡ cs
+all_calls cs e = rw (e, kept_holding (numbers (length cs)), first_calls cs (length cs) (omega arith), take-length cs)
 
 map_take : {A B : Type 0} (f : A → B) (n : ℕ) (l : List A) → map f (take n l) ≡ take n (map f l)
 map_take f zero l = refl
@@ -93,10 +87,6 @@ module _ (T : Topology) (cs : List Record) (f : Failure) (e : first_failure T cs
   pub place_within : f.place < length cs
   place_within = omega (arith, first.before, length-map cs (call_with full_budget))
 
-module _ (T : Topology) (list : CallList) (f : Failure) (e : first_failure T (listed list) ≡ some f) where
-  pub listed_place_lem : f.place < list.count
-  listed_place_lem = rw (listed_length list) at (place_within T (listed list) f e)
-
   abbrev up_to : List ℕ
   up_to = numbers (f.place + 1)
 
@@ -107,18 +97,17 @@ module _ (T : Topology) (list : CallList) (f : Failure) (e : first_failure T (li
   at i l = numbers_at (f.place + 1) i l
 
   -- the calls up to the first failure fail as the list does
-  found : first_failure T (calls_at (listed list) up_to) ≡ some (record { place = length up_to - 1; number = f.number })
+  found : first_failure T (calls_at cs up_to) ≡ some (record { place = length up_to - 1; number = f.number })
   unfolding first_failure replies
   found =
       let n : ℕ = f.place + 1 in
-      let cs : List Record = listed list in
-      let within : n ≤ length cs = rw (listed_length list) (omega (arith, listed_place_lem)) in
+      let within : n ≤ length cs = omega (arith, place_within) in
       let place : length up_to - 1 ≡ f.place = omega (arith, count) in
       let whole : n - 0 ≡ n = omega arith in
       rw (first_calls cs n within, map_take (call_with full_budget) n cs, place)
-      (rw whole at (first T cs f e).same)
+      (rw whole at first.same)
 
-  whole_part : Fails T (listed list) f up_to
+  whole_part : Fails T cs f up_to
   whole_part =
       record {
         rising = λ i j l k. rw (at i (omega (arith, count)), at j (omega (arith, count))) l;
@@ -126,10 +115,16 @@ module _ (T : Topology) (list : CallList) (f : Failure) (e : first_failure T (li
         failure = found;
       }
 
-  pub whole_fails : {part : Part} → f.place < list_limit → part ≡ part_of up_to → Failing T list f part
-  whole_fails few e =
+-- so a search starts with a part that fails
+module _ (s : Search) where
+  pub first_within : s.first.place < list_limit
+  first_within = omega (arith, place_within s.topology s.list.now (failure_of s.first) s.fails, s.few)
+
+  pub whole_fails : {part : Part} → part ≡ part_of (numbers (s.first.place + 1)) → Failing s part
+  whole_fails e =
       record {
-        held = held_places (omega arith) e;
-        listed_place = listed_place_lem;
-        fails = rw (e, kept_holding up_to) whole_part;
+        held = held_places (omega (arith, first_within)) e;
+        fails =
+            rw (e, kept_holding (numbers (s.first.place + 1)))
+            (whole_part s.topology s.list.now (failure_of s.first) s.fails);
       }

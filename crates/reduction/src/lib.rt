@@ -4,67 +4,49 @@
 
 mod part;
 mod replay;
+mod search;
 mod shrink;
 
-ghost use Rattle.std.specs.Prelude.{◌≡◌};
-ghost use Rattle.model.specs.CallList.{listed};
-ghost use Rattle.reduction.specs.Reduces.{refused_list, Reduces};
+ghost use Rattle.reduction.specs.Reduces.{Reduces};
 
-use crate::replay::End;
-use model::{CallList, LISTED, Refusal, Topology, Verdict};
-pub use part::Part;
+use crate::search::Search;
+use model::{LISTED, Record, Refusal, Topology};
+pub use part::{Part, nth_call};
 
-// What is answered: the place of the list's first refused call, counted from 0, and its refusal; or why there is none.
-#[derive(Clone, Copy)]
-pub enum Finding {
-    Failure(u16, Refusal),
-    Refused(Refusal),
-}
-
-// With it comes a smallest part that fails so; the empty part where there is none. And how much room each call of the
-// part said is left: 0 for one that is no send, for the last one, and in the places after.
+// What is found: the place of the list's first refused call, counted from 0, and its refusal; a smallest part that
+// fails so; and how much room each call of the part said is left: 0 for one that is no send, for the last one, and in
+// the places after.
 #[derive(Clone, Copy)]
 pub struct Reduced {
-    pub found: Finding,
+    pub place: u16,
+    pub refusal: Refusal,
     pub part: Part,
     pub rooms: [u8; LISTED],
 }
 
-// A refusal, and the empty part.
-fn refused(refusal: Refusal) -> Reduced
-    ensures { result ≡ refused_list refusal }
+// Of any topology and any list, however long.
+pub fn reduce(topology: Topology, list: &[Record]) -> Result<Reduced, Refusal>
+    ensures { Reduces topology list.now result }
 {
-    let part = part::first(0);
-    Reduced {
-        found: Finding::Refused(refusal),
-        part,
-        rooms: [0; LISTED],
+    if LISTED < list.len() {
+        return Err(Refusal::LongList);
     }
-}
-
-// Of any topology and any list, whatever its count.
-pub fn reduce(topology: Topology, list: CallList) -> Reduced
-    ensures { Reduces topology (listed list) result }
-{
-    if LISTED < list.count as usize {
-        return refused(Refusal::LongList);
-    }
-    if let Verdict::Refuse(r) = rules::topology::check(topology) {
-        return refused(r);
-    }
-    let all = part::first(list.count);
-    let replayed = replay::replay(topology, list, all);
-    let end = replayed.end;
-    let End::Refused(place, refusal) = end else {
-        return refused(Refusal::NothingRefused);
+    rules::topology::check(topology)?;
+    let all = part::first(list.len() as u16);
+    let Some(first) = replay::replay(topology, list, all).refused else {
+        return Err(Refusal::NothingRefused);
     };
-    let whole = part::first(place + 1);
-    let part = shrink::shrink(topology, list, whole, refusal);
-    let smallest = replay::replay(topology, list, part);
-    let rooms = smallest.rooms;
-    Reduced {
-        found: Finding::Failure(place, refusal),
+    let search = Search {
+        topology,
+        list,
+        first,
+    };
+    let part = search.shrink();
+    let rooms = replay::replay(topology, list, part).rooms;
+    Ok(Reduced {
+        place: first.place,
+        refusal: first.refusal,
         part,
         rooms,
-    }
+    })
 }

@@ -1,16 +1,25 @@
 // A part of a list of calls: the places of its calls.
-ghost use Rattle.std.specs.Prelude.{◌≡◌, ◌+◌, ◌≤◌};
+ghost use Rattle.std.specs.Prelude.{◌≡◌, ◌+◌, ◌≤◌, get_or};
+ghost use Rattle.model.specs.declared.Record.TheVariants.{Recover};
 ghost use Rattle.model.specs.Notation.{tabulate};
 ghost use Rattle.model.specs.CallList.{list_limit};
 ghost use Rattle.reduction.specs.Parts.{kept, part_of, Held, without_block, past};
 
-use model::LISTED;
+use model::{LISTED, Record};
 
-// The places of its calls in the list, and how many they are; 0 in the places after them.
+// The places of its calls in the list, and how many they are; 0 in the places after them. (No Vec: memory is fixed. And
+// no ghost field for `Held`: the promise of `reduce` says it, and its theorem `only_the_part` speaks of any part.)
 #[derive(Clone, Copy)]
 pub struct Part {
     pub places: [u8; LISTED],
     pub count: u16,
+}
+
+// The call at a place of a list. (No part that is found has a place past the list's end, where this is a recover.)
+pub fn nth_call(list: &[Record], place: u8) -> Record
+    ensures { result ≡ get_or list.now place Recover }
+{
+    list.get(place as usize).copied().unwrap_or(Record::Recover)
 }
 
 // The first n calls of a list.
@@ -19,10 +28,8 @@ pub fn first(n: u16) -> Part
     ensures { result ≡ part_of (tabulate n (λ i. i)) }
 {
     let mut places = [0; LISTED];
-    let mut i: u16 = 0;
-    while i < n {
+    for i in 0..n {
         places[i as usize] = i as u8;
-        i += 1;
     }
     Part { places, count: n }
 }
@@ -43,10 +50,8 @@ pub fn without(part: Part, from: u16, to: u16) -> Part
     let gap = to - from;
     let count = part.count - gap;
     let mut places = [0; LISTED];
-    let mut i: u16 = 0;
-    while i < count {
+    for i in 0..count {
         places[i as usize] = part.places[past(from, gap, i) as usize];
-        i += 1;
     }
     Part { places, count }
 }

@@ -1,65 +1,50 @@
 // A part of a list, run from setup with full current, up to its first refusal.
 ghost use Rattle.std.specs.Prelude.{◌≡◌};
-ghost use Rattle.model.specs.Outcome.{refusal_number, refusal_of, refused_with, room_said, said_by};
-ghost use Rattle.model.specs.CallList.{replies, first_failure};
-ghost use Rattle.reduction.specs.Parts.{Held};
-ghost use Rattle.reduction.specs.Replays.{Replays, replies_from, calls, ends_with};
+ghost use Rattle.std.proofs.Math.Option.{none};
+ghost use Rattle.model.specs.CallList.{replies};
+ghost use Rattle.model.specs.Outcome.{said_by};
+ghost use Rattle.model.specs.Reduction.{calls_at};
+ghost use Rattle.model.specs.Topology.{topology_refusal};
+ghost use Rattle.reduction.specs.Parts.{kept, Held};
+ghost use Rattle.reduction.specs.Replays.{Replays, replies_from, Says};
 
+use crate::part;
 use crate::part::Part;
-use model::{
-    Answer, CallList, FULL_BUDGET, LISTED, Outcome, Record, Refusal, Start, State, Topology,
-    Verdict,
-};
+use model::{Answer, FULL_BUDGET, LISTED, Outcome, Record, Refusal, State, Topology};
 use rules::layout::STORE_CELLS;
-use rules::refusal::number;
 
-// How a run ends: at a refused call, which is the part's i-th, counted from 0; or with none refused.
+// A refused call: which of those that are run it is, counted from 0, and its refusal.
 #[derive(Clone, Copy)]
-pub enum End {
-    Refused(u16, Refusal),
-    Through,
+pub struct Refused {
+    pub place: u16,
+    pub refusal: Refusal,
 }
 
-// With it comes how much room each call before that said is left: 0 for one that is no send, and in the places after.
+// How a run ends: at a refused call, or with none refused. With it comes how much room each call before that said is
+// left: 0 for one that is no send, and in the places after.
 #[derive(Clone, Copy)]
 pub struct Replayed {
-    pub end: End,
+    pub refused: Option<Refused>,
     pub rooms: [u8; LISTED],
 }
 
-// What a step's outcome says of refusals.
-fn verdict(outcome: Outcome) -> Verdict
-    ensures { refusal_of result ≡ refused_with (said_by outcome) }
+// How much room a step's outcome says is left, which is 0 of one that is no send; or its refusal.
+#[tactic(auto, unfolding(model::specs::Outcome::refused_with, model::specs::Outcome::refusal_of))]
+fn room(outcome: Outcome) -> Result<u8, Refusal>
+    ensures { Says (said_by outcome) result }
 {
     match outcome {
-        Outcome::Done => Verdict::Pass,
-        Outcome::Sent(_) => Verdict::Pass,
-        Outcome::Received(_) => Verdict::Pass,
-        Outcome::ReceivedMarker => Verdict::Pass,
-        Outcome::Refused(r) => Verdict::Refuse(r),
-        Outcome::PowerLost => Verdict::Pass,
-    }
-}
-
-// What a step's outcome says of room: a send's count, and 0 of any other.
-fn room(outcome: Outcome) -> u8
-    ensures { result ≡ room_said (said_by outcome) }
-{
-    match outcome {
-        Outcome::Done => 0,
-        Outcome::Sent(left) => left,
-        Outcome::Received(_) => 0,
-        Outcome::ReceivedMarker => 0,
-        Outcome::Refused(_) => 0,
-        Outcome::PowerLost => 0,
+        Outcome::Sent(left) => Ok(left),
+        Outcome::Refused(r) => Err(r),
+        _ => Ok(0),
     }
 }
 
 // The calls of a part, from this state and store on. (Each call stands in the loop, and the answer hands its state on:
 // a function for one call would cost two copies of the state, a state beside the answer one.)
-fn run(topology: Topology, list: CallList, part: Part, first: State, store: &mut [u32]) -> Replayed
+fn run(topology: Topology, list: &[Record], part: Part, first: State, store: &mut [u32]) -> Replayed
     requires { Held part }
-    ensures { Replays (replies_from topology first store.old (calls list part)) result }
+    ensures { Replays (replies_from topology first store.old (calls_at list.now (kept part))) result }
 {
     let mut answer = Answer {
         outcome: Outcome::Done,
@@ -67,59 +52,40 @@ fn run(topology: Topology, list: CallList, part: Part, first: State, store: &mut
         state: first,
     };
     let mut rooms = [0; LISTED];
-    let mut i: u16 = 0;
-    while i < part.count {
-        let listed = list.calls[part.places[i as usize] as usize];
-        let content = listed.content;
-        let mut left = 0;
-        match content {
+    for i in 0..part.count {
+        let said = match part::nth_call(list, part.places[i as usize]) {
             Record::Call(step) => {
                 answer = engine::step(answer.state, step, store, FULL_BUDGET);
-                let outcome = answer.outcome;
-                if let Verdict::Refuse(r) = verdict(outcome) {
-                    let end = End::Refused(i, r);
-                    return Replayed { end, rooms };
-                }
-                left = room(outcome);
+                room(answer.outcome)
             }
-            Record::Recover => {
-                let started = recovery::recover(topology, store);
-                let start = started.start;
-                if let Start::Refused(r) = start {
-                    let end = End::Refused(i, r);
-                    return Replayed { end, rooms };
+            Record::Recover => match recovery::recover(topology, store) {
+                Ok(state) => {
+                    answer.state = state;
+                    Ok(0)
                 }
-                let after = started.state;
-                answer.state = after;
+                Err(r) => Err(r),
+            },
+        };
+        match said {
+            Ok(left) => rooms[i as usize] = left,
+            Err(refusal) => {
+                let refused = Some(Refused { place: i, refusal });
+                return Replayed { refused, rooms };
             }
         }
-        rooms[i as usize] = left;
-        i += 1;
     }
-    let end = End::Through;
-    Replayed { end, rooms }
+    Replayed {
+        refused: None,
+        rooms,
+    }
 }
 
 // In a store of its own, which starts as zeros each time.
-pub fn replay(topology: Topology, list: CallList, part: Part) -> Replayed
-    requires { Held part }
-    ensures { Replays (replies topology (calls list part)) result }
+pub fn replay(topology: Topology, list: &[Record], part: Part) -> Replayed
+    requires { Held part × (topology_refusal topology ≡ none) }
+    ensures { Replays (replies topology (calls_at list.now (kept part))) result }
 {
     let mut store = [0u32; STORE_CELLS];
-    let started = engine::initialize(topology, &mut store);
-    let first = started.state;
+    let first = engine::initialize(topology, &mut store).unwrap();
     run(topology, list, part, first, &mut store)
-}
-
-// Whether a part's last call is its first refused one, with this refusal's number.
-pub fn fails(topology: Topology, list: CallList, part: Part, refusal: Refusal) -> bool
-    requires { Held part }
-    ensures { result ≡ ends_with (first_failure topology (calls list part)) part.count (refusal_number refusal) }
-{
-    let replayed = replay(topology, list, part);
-    let end = replayed.end;
-    let End::Refused(i, r) = end else {
-        return false;
-    };
-    i + 1 == part.count && number(r) == number(refusal)
 }
