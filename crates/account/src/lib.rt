@@ -2,7 +2,8 @@
 #![tactic(auto)]
 
 // What a call did, by its answer: its kind, 1 to 9, or 0 where it was not accepted; its process and channel; the body
-// sent or received; whether a marker was received; how many writes it made.
+// sent or received; whether a marker was received; how many writes it made. (The kind is a number, and no enum: the
+// account's definitions and theorems, from `did` on, are said of document 01's numbers and of 0.)
 #[derive(Clone, Copy)]
 pub struct Deed {
     pub kind: u8,

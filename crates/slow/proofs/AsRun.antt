@@ -5,17 +5,17 @@ use mathlib.Core.Path.{◌≡◌, refl, sym, ap, subst, ◌∙◌}
 use mathlib.Core.Bool.{Bool, true, false, cond}
 use mathlib.Core.List.{List, [], ◌∷◌, ◌++◌, map, map-append}
 use mathlib.Core.Option.{none, or_else}
-use lib.ListN.{get_or, replicate, length-replicate}
+use lib.ListN.{get_or, length, replicate, length-replicate}
 use borrow.Author.Tests.{lt-ltb}
 use Rattle.model.specs.declared.Topology.{Topology}
 use Rattle.model.specs.declared.Record.{Record}
 use Rattle.model.specs.declared.Record.TheVariants as records
-use Rattle.model.specs.declared.Listed.{Listed}
 use Rattle.model.specs.declared.Step.{Step}
 use Rattle.model.specs.declared.Step.TheVariants.{Send, Receive, Begin, PhysicalCheckpoint}
 use Rattle.model.specs.declared.Step.TheVariants.{LogicalCheckpoint, SendMarker, Commit, Abort}
 use Rattle.model.specs.Notation.{tabulate}
 use Rattle.model.specs.Heard.{accepted}
+use Rattle.model.specs.CallList.{call_at}
 use Rattle.model.specs.Check.{first_refusal}
 use Rattle.model.specs.Topology.{topology_refusal}
 use Rattle.model.specs.Layout.{present, store_cells, message_log, channel_log}
@@ -27,22 +27,22 @@ use Rattle.model.specs.Record.{Fields, fields_of}
 use Rattle.model.specs.Program.{full_budget}
 use Rattle.model.specs.ProgramsAreRuns.{call_with}
 use Rattle.model.specs.Run.{Call, World, Reply, reply_to, trace}
-use Rattle.model.proofs.laws.Tests.{true_is_not_false}
 use Rattle.model.proofs.laws.Passing.{Prior}
 use Rattle.model.proofs.laws.Calls.{initialize_refusal_lem, accepted_passes}
 use Rattle.model.proofs.laws.SoundLaws.{Sound, sound_facts, entries_fit}
 use Rattle.model.proofs.Trace.{trace_append}
 use Rattle.model.proofs.Demand3.{end_holds}
 use Rattle.account.specs.declared.Deed.{Deed}
+use Rattle.slow.specs.declared.deeds.Past.{Past}
 use Rattle.slow.specs.declared.CallAnswer.{CallAnswer}
 use Rattle.account.specs.Deeds.{deed_by, deed_of, fields_for, onto, did}
 use Rattle.account.specs.Standing.{state_of, state_from}
 use Rattle.account.specs.Judging.{judge}
 use Rattle.slow.specs.Replays.{unanswered, start}
-use Rattle.slow.specs.SoFar.{Says, AnsweredSoFar, world_at, reply_at, contents}
-use Rattle.slow.specs.Kept.{latest, deed_for, asked, unheard}
+use Rattle.slow.specs.SoFar.{Says, Answered, world_at, reply_at}
+use Rattle.slow.specs.Kept.{past_of, latest, deed_for, asked, unheard}
 use Rattle.slow.specs.Seen.{Fits, AllFit}
-use Rattle.slow.specs.Parts.{Small, Judges}
+use Rattle.slow.specs.Parts.{Small, Ready, Judges}
 use Rattle.account.proofs.PastIsState.{past_is_state}
 use Rattle.account.proofs.Next.{told_sound, next_answer}
 use Rattle.slow.proofs.Pasts.{latest_cong}
@@ -59,13 +59,13 @@ unfolding reply_to call_with
 call_of_lem T w (records.Call x) = refl
 call_of_lem T w records.Recover = refl
 
-deed_is : (T : Topology) (calls : List Listed) (answers : List CallAnswer) (i : ℕ)
-    → Says (get_or answers i unanswered) (reply_at T (contents calls) i)
-    → deed_for calls answers i ≡ deed_of (reply_at T (contents calls) i)
+deed_is : (T : Topology) (calls : List Record) (answers : List CallAnswer) (i : ℕ)
+    → Says (get_or answers i unanswered) (reply_at T (call_at calls) i)
+    → deed_for calls answers i ≡ deed_of (reply_at T (call_at calls) i)
 unfolding deed_of
 deed_is T calls answers i s =
-    let content = contents calls i in
-    rw (s.outcome, s.made, call_of_lem T (world_at T (contents calls) i) content, fields_of_lem content)
+    let content = call_at calls i in
+    rw (s.outcome, s.made, call_of_lem T (world_at T (call_at calls) i) content, fields_of_lem content)
 
 -- A deed of an accepted call names what is planned.
 abbrev deed_when : Bool → Fields → ℕ → Bool → ℕ → Deed
@@ -80,12 +80,7 @@ deed_when t f body marker made =
     }
 
 unasked : (T : Topology) (d : Deed) → did 1 d ≡ false → did 2 d ≡ false → did 5 d ≡ false → Fits T d
-unasked T d a b e =
-    record {
-      sends = λ t. true_is_not_false t a;
-      receives = λ t. true_is_not_false t b;
-      marks = λ t. true_is_not_false t e;
-    }
+unasked T d a b e = record { sends = λ t. cc; receives = λ t. cc; marks = λ t. cc }
 
 module _ (s : GlobalState) (b : ℕ) (m : Bool) (made : ℕ) where
   step_fits : (x : Step) (t : Bool) → (t ≡ true → Prior s x)
@@ -93,23 +88,11 @@ module _ (s : GlobalState) (b : ℕ) (m : Bool) (made : ℕ) where
   unfolding fields_of
   step_fits x false prior = unasked _ _ refl refl refl
   step_fits (Send c a) true prior =
-      record {
-        sends = λ t. prior refl;
-        receives = λ t. true_is_not_false t refl;
-        marks = λ t. true_is_not_false t refl;
-      }
+      record { sends = λ t. prior refl; receives = λ t. cc; marks = λ t. cc }
   step_fits (Receive c) true prior =
-      record {
-        sends = λ t. true_is_not_false t refl;
-        receives = λ t. (prior refl).planned;
-        marks = λ t. true_is_not_false t refl;
-      }
+      record { sends = λ t. cc; receives = λ t. (prior refl).planned; marks = λ t. cc }
   step_fits (LogicalCheckpoint p) true prior =
-      record {
-        sends = λ t. true_is_not_false t refl;
-        receives = λ t. true_is_not_false t refl;
-        marks = λ t. (prior refl).planned;
-      }
+      record { sends = λ t. cc; receives = λ t. cc; marks = λ t. (prior refl).planned }
   step_fits Begin true prior = unasked _ _ refl refl refl
   step_fits (PhysicalCheckpoint p) true prior = unasked _ _ refl refl refl
   step_fits (SendMarker c) true prior = unasked _ _ refl refl refl
@@ -180,23 +163,31 @@ module _ (T : Topology) where
         (fits, all_planned f n)
 
     -- The past that answers tell, where they are the run's.
-    module _ (calls : List Listed) (answers : List CallAnswer) (n : ℕ) (told : AnsweredSoFar T calls n answers)
-        (ds : List Deed) (is : ds ≡ latest n (deed_for calls answers)) where
-      as_replied : ds ≡ latest n (λ k. deed_of (reply_at T (contents calls) k))
+    module _ {calls : List Record} {answers : List CallAnswer} (past : Past)
+        (told : Answered T calls answers) (is : past_of past ≡ latest (length answers) (deed_for calls answers)) where
+      abbrev n : ℕ
+      n = length answers
+
+      as_replied : past_of past ≡ latest n (λ k. deed_of (reply_at T (call_at calls) k))
       as_replied = is ∙ latest_cong n _ _ (λ i l. deed_is T calls answers i (told.told i l))
 
-      as_traced : ds ≡ onto [] (trace T (start T) (made (contents calls) n))
+      as_traced : past_of past ≡ onto [] (trace T (start T) (made (call_at calls) n))
       as_traced =
-          as_replied ∙ sym (ap (onto []) (trace_is (contents calls) n) ∙ onto_is (reply_at T (contents calls)) n)
+          as_replied ∙ sym (ap (onto []) (trace_is (call_at calls) n) ∙ onto_is (reply_at T (call_at calls)) n)
 
-      pub told_fit : AllFit T ds
-      told_fit = rw as_replied (all_planned (contents calls) n)
+      pub told_ready : Ready T past
+      told_ready =
+          record {
+            fit = rw as_replied (all_planned (call_at calls) n);
+            good = good;
+            small =
+                all_small (past_of past)
+                (rw as_traced (told_sound T (replicate store_cells 0) ready (made (call_at calls) n)));
+          }
 
-      pub told_small : Small T ds
-      told_small = all_small ds (rw as_traced (told_sound T (replicate store_cells 0) ready (made (contents calls) n)))
-
-      pub told_state : state_of T ds ≡ (world_at T (contents calls) n).state
-      told_state = ap (state_of T) as_traced ∙ past_is_state T (replicate store_cells 0) ready (made (contents calls) n)
+      pub told_state : state_of T (past_of past) ≡ (world_at T (call_at calls) n).state
+      told_state =
+          ap (state_of T) as_traced ∙ past_is_state T (replicate store_cells 0) ready (made (call_at calls) n)
 
     -- the answer in the run's state
     judged_as : (f : ℕ → Record) (n : ℕ) → judge (world_at T f n).state (call_with full_budget (f n)) ≡ reply_at T f n

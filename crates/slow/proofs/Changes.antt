@@ -1,23 +1,25 @@
 -- Laws of the histories as the code holds them: each change of the arrays is a change of the histories.
-use Prim.Native.Nat.{ℕ, zero, suc, ◌+◌, ◌*◌, ◌<◌, ◌≤◌}
-use mathlib.Core.Path.{◌≡◌, sym, ap, ap₂, fun_ext, ◌∙◌}
+use Prim.Native.Nat.{ℕ, zero, suc, ◌<◌, ◌≤◌}
+use mathlib.Core.Path.{◌≡◌, refl, sym, ap, fun_ext, ◌∙◌}
 use mathlib.Core.Bool.{true, false}
 use mathlib.Core.List.{List, [], ◌∷◌, ◌++◌}
 use mathlib.Core.Option.{some}
+use Rattle.std.proofs.Common.{Option, None, Some}
+use Rattle.std.specs.Option.{is_some, unwrap_or}
 use lib.ListN.{length, get_or, set, take, replicate, length-append}
-use lib.Seq.{get_or-set_same, get_or-set_other, take-append-le, take-length}
-use borrow.Author.Tests.{le-leb, leb-true}
+use lib.Seq.{take-append-le, take-length}
 use native.Mathlib.Omega.{arith}
 use Rattle.model.specs.Notation.{upd, tabulate}
-use Rattle.model.specs.History.{Event, History, new_history, add_event, mark_now, mark_unmarked, mark_or, no_marks}
+use Rattle.model.specs.History.{History, new_history, mark_now, mark_unmarked, mark_or, no_marks}
 use Rattle.model.specs.History.{on_commit, on_recover}
-use Rattle.model.proofs.laws.Tests.{Tested, holds, fails, test}
-use Rattle.model.proofs.laws.Functions.{Indices, same, other, indices, by_index, upd_same, upd_other}
+use Rattle.model.proofs.laws.Functions.{Indices, same, other, indices}
 use Rattle.model.proofs.laws.Functions.{seen_set, seen_replicate}
-use Rattle.model.proofs.laws.Lists.{tabulate_more, tabulate_cong, tabulate_length}
+use Rattle.model.proofs.laws.Lists.{tabulate_length}
 use Rattle.account.specs.declared.Deed.{Deed}
-use Rattle.slow.specs.declared.histories.Histories.{Histories}
-use Rattle.slow.specs.Seen.{event_of, mark_of, has_mark_in, place_in, history_seen, Whole, Becomes, Starts, Finished}
+use Rattle.slow.specs.declared.events.Histories.{Histories}
+use Rattle.slow.specs.Seen.{event_of, mark_of, mark_in, has_mark_in, place_in, history_seen}
+use Rattle.slow.specs.Within.{Rows, Few, LinesWithin, MarksWithin}
+use Rattle.slow.specs.Seen.{Becomes, Starts, Finished}
 
 -- the first m of n places
 pub take_tabulate : {A : Type 0} (m n : ℕ) (f : ℕ → A) → m ≤ n → take m (tabulate n f) ≡ tabulate m f
@@ -38,35 +40,42 @@ take_tabulate {A} m (suc n) f l = go (indices m (suc n)) (λ k. take_tabulate m 
         take-append-le m (tabulate n f) (f n ∷ []) (rw (tabulate_length n f) k) ∙ ih k
 
 -- no process is marked
-abbrev unmarked : List ℕ
-unmarked = replicate 16 65535
-
-no_mark : {X : Type 0} (p : ℕ) → get_or unmarked p 65535 ≤ 256 → X
-no_mark p l =
-    let e : ◌≡◌ {A = ℕ} (get_or unmarked p 65535) 65535 = ap (λ (g : ℕ → ℕ). g p) (seen_replicate 16 65535) in
-    absurd (omega arith)
+abbrev unmarked : List (Option ℕ)
+unmarked = replicate 16 None
 
 -- the first histories
+abbrev no_entries : List (List ℕ)
+no_entries = replicate 16 (replicate 256 0)
+
 zero_at : (p : ℕ) → ◌≡◌ {A = ℕ} (get_or (replicate 16 0) p 0) 0
 zero_at p = ap (λ (g : ℕ → ℕ). g p) (seen_replicate 16 0)
 
-pub starts :
-    Starts (record { entries = replicate 4096 0; counts = replicate 16 0; lines = replicate 16 0; marks = unmarked })
+abbrev zeros : List ℕ
+zeros = replicate 16 0
+
+-- (here and below, whatever proofs the ghost fields have)
+pub starts : {rows : Rows no_entries} {room : Few zeros} {line : LinesWithin zeros zeros}
+    → {mark : MarksWithin unmarked zeros}
+    → Starts
+    (record {
+      entries = no_entries;
+      counts = zeros;
+      lines = zeros;
+      marks = unmarked;
+      rows = rows;
+      room = room;
+      line = line;
+      mark = mark;
+    })
 unfolding history_seen new_history tabulate
 starts =
     record {
       seen = λ f j.
           record {
             events = λ p.
-                tabulate (seen_replicate 16 0 j p) (λ k. event_of (f (get_or (replicate 4096 0) (256 * p + k) 0)));
+                tabulate (seen_replicate 16 0 j p) (λ k. event_of (f (get_or (get_or no_entries p []) k 0)));
             line = λ p. seen_replicate 16 0 j p;
-            mark = λ p. mark_of (seen_replicate 16 65535 j p);
-          };
-      whole =
-          record {
-            room = λ p. omega (arith, zero_at p);
-            line = λ p. omega (arith, zero_at p);
-            mark = λ p m. no_mark p m;
+            mark = λ p. mark_of (seen_replicate 16 None j p);
           };
       empty = zero_at;
     }
@@ -74,29 +83,50 @@ starts =
 -- a change said otherwise
 pub becomes_otherwise : {b r : Histories} {change said : (ℕ → Deed) → History → History} → Becomes b change r
     → ((f : ℕ → Deed) → change f (history_seen f b) ≡ said f (history_seen f b)) → Becomes b said r
-becomes_otherwise m e = record { seen = λ f. m.seen f ∙ e f; whole = m.whole; grown = m.grown }
+becomes_otherwise m e = record { seen = λ f. m.seen f ∙ e f; grown = m.grown }
 
 -- a mark that there is stays, and one that there isn't is set
+marked_stays : (h : History) (p : ℕ) (o : Option ℕ) → is_some o ≡ true → mark_unmarked (mark_of o) p h ≡ h
+unfolding mark_unmarked
+marked_stays h p None e = cc
+marked_stays h p (Some m) e = refl
+
+unmarked_gets : (h : History) (p : ℕ) (o : Option ℕ) → is_some o ≡ false
+    → mark_unmarked (mark_of o) p h ≡ mark_now p h
+unfolding mark_unmarked
+unmarked_gets h p None e = refl
+unmarked_gets h p (Some m) e = cc
+
 module _ (f : ℕ → Deed) (b : Histories) (p : ℕ) where
   pub stays_marked : has_mark_in b p ≡ true
       → mark_unmarked ((history_seen f b).mark p) p (history_seen f b) ≡ history_seen f b
-  unfolding history_seen mark_unmarked
-  stays_marked e = rw e
+  unfolding history_seen
+  stays_marked e = marked_stays (history_seen f b) p (mark_in b p) e
 
   pub gets_marked : has_mark_in b p ≡ false
       → mark_unmarked ((history_seen f b).mark p) p (history_seen f b) ≡ mark_now p (history_seen f b)
-  unfolding history_seen mark_unmarked
-  gets_marked e = rw e
+  unfolding history_seen
+  gets_marked e = unmarked_gets (history_seen f b) p (mark_in b p) e
 
-module _ (b : Histories) (w : Whole b) where
+module _ (b : Histories) where
   pub same_histories : (change : (ℕ → Deed) → History → History)
       → ((f : ℕ → Deed) → history_seen f b ≡ change f (history_seen f b)) → Becomes b change b
-  same_histories change e = record { seen = e; whole = w; grown = λ p. omega arith }
+  same_histories change e = record { seen = e; grown = λ p. omega arith }
 
   -- no marks
-  pub forgets :
-      Becomes b (λ f h. no_marks h)
-      (record { entries = b.entries; counts = b.counts; lines = b.lines; marks = unmarked })
+  pub forgets : {rows : Rows b.entries} {room : Few b.counts} {line : LinesWithin b.lines b.counts}
+      → {mark : MarksWithin unmarked b.counts}
+      → Becomes b (λ f h. no_marks h)
+      (record {
+        entries = b.entries;
+        counts = b.counts;
+        lines = b.lines;
+        marks = unmarked;
+        rows = rows;
+        room = room;
+        line = line;
+        mark = mark;
+      })
   unfolding history_seen no_marks
   forgets =
       record {
@@ -104,82 +134,92 @@ module _ (b : Histories) (w : Whole b) where
             record {
               events = (history_seen f b).events;
               line = (history_seen f b).line;
-              mark = λ p. mark_of (seen_replicate 16 65535 j p);
+              mark = λ p. mark_of (seen_replicate 16 None j p);
             };
-        whole = record { room = w.room; line = w.line; mark = λ q m. no_mark q m };
         grown = λ q. omega arith;
       }
 
   -- shortened to the line
-  pub shortens :
-      Becomes b (λ f h. on_recover h)
-      (record { entries = b.entries; counts = b.lines; lines = b.lines; marks = unmarked })
+  pub shortens : {rows : Rows b.entries} {room : Few b.lines} {line : LinesWithin b.lines b.lines}
+      → {mark : MarksWithin unmarked b.lines}
+      → Becomes b (λ f h. on_recover h)
+      (record {
+        entries = b.entries;
+        counts = b.lines;
+        lines = b.lines;
+        marks = unmarked;
+        rows = rows;
+        room = room;
+        line = line;
+        mark = mark;
+      })
   unfolding history_seen on_recover
   shortens =
       record {
         seen = λ f j.
             record {
-              events = fun_ext (λ p. sym (take_tabulate _ _ (λ k. event_of (f (place_in b p k))) (w.line p))) j;
+              events = fun_ext (λ p. sym (take_tabulate _ _ (λ k. event_of (f (place_in b p k))) (b.line p))) j;
               line = (history_seen f b).line;
-              mark = λ p. mark_of (seen_replicate 16 65535 j p);
+              mark = λ p. mark_of (seen_replicate 16 None j p);
             };
-        whole =
-            record {
-              room = λ q. omega (arith, w.line q, w.room q);
-              line = λ q. omega arith;
-              mark = λ q m. no_mark q m;
-            };
-        grown = λ q. omega (arith, w.line q);
+        grown = λ q. omega (arith, b.line q);
       }
 
   -- the marks become the line
   module _ (lines : List ℕ) (k : Finished b.lines b.marks lines) where
-    in_history : (q : ℕ) → Tested (has_mark_in b q) → get_or lines q 0 ≤ get_or b.counts q 0
+    said : (o : Option ℕ) (place : ℕ) → unwrap_or o place ≡ mark_or (mark_of o) place
     unfolding mark_or
-    in_history q (holds e) = rw (k.at q, e) (w.mark q (leb-true _ 256 e))
-    in_history q (fails e) = rw (k.at q, e) (w.line q)
+    said None place = refl
+    said (Some m) place = refl
 
-    pub finishes :
-        Becomes b (λ f h. on_commit h)
-        (record { entries = b.entries; counts = b.counts; lines = lines; marks = unmarked })
+    pub finishes : {rows : Rows b.entries} {room : Few b.counts} {line : LinesWithin lines b.counts}
+        → {mark : MarksWithin unmarked b.counts}
+        → Becomes b (λ f h. on_commit h)
+        (record {
+          entries = b.entries;
+          counts = b.counts;
+          lines = lines;
+          marks = unmarked;
+          rows = rows;
+          room = room;
+          line = line;
+          mark = mark;
+        })
     unfolding history_seen on_commit
     finishes =
         record {
           seen = λ f j.
               record {
                 events = (history_seen f b).events;
-                line = fun_ext k.at j;
-                mark = λ p. mark_of (seen_replicate 16 65535 j p);
-              };
-          whole =
-              record {
-                room = w.room;
-                line = λ q. in_history q (test (has_mark_in b q));
-                mark = λ q m. no_mark q m;
+                line = fun_ext (λ q. k.at q ∙ said (mark_in b q) (get_or b.lines q 0)) j;
+                mark = λ p. mark_of (seen_replicate 16 None j p);
               };
           grown = λ q. omega arith;
         }
 
   -- p is marked
   module _ (p : ℕ) (l : p < length b.marks) where
-    abbrev marks : List ℕ
-    marks = set b.marks p (get_or b.counts p 0)
+    abbrev marks : List (Option ℕ)
+    marks = set b.marks p (Some (get_or b.counts p 0))
 
-    marks_in : (q : ℕ) → get_or marks q 65535 ≤ 256 → get_or marks q 65535 ≤ get_or b.counts q 0
-    marks_in =
-        by_index (λ q. get_or marks q 65535 ≤ 256 → get_or marks q 65535 ≤ get_or b.counts q 0) p
-        (λ m. omega (arith, get_or-set_same b.marks p (get_or b.counts p 0) 65535 l))
-        (λ q d. rw (get_or-set_other b.marks p q (get_or b.counts p 0) 65535 (λ z. d (sym z))) (w.mark q))
-
-    pub marks_it :
-        Becomes b (λ f h. mark_now p h)
-        (record { entries = b.entries; counts = b.counts; lines = b.lines; marks = marks })
+    pub marks_it : {rows : Rows b.entries} {room : Few b.counts} {line : LinesWithin b.lines b.counts}
+        → {mark : MarksWithin marks b.counts}
+        → Becomes b (λ f h. mark_now p h)
+        (record {
+          entries = b.entries;
+          counts = b.counts;
+          lines = b.lines;
+          marks = marks;
+          rows = rows;
+          room = room;
+          line = line;
+          mark = mark;
+        })
     unfolding history_seen mark_now
     marks_it =
         record {
           seen = λ f j.
               record { events = (history_seen f b).events; line = (history_seen f b).line; mark = marked_now f j };
-          whole = record { room = w.room; line = w.line; mark = marks_in };
           grown = λ q. omega arith;
         }
       where
@@ -187,84 +227,9 @@ module _ (b : Histories) (w : Whole b) where
         n = get_or b.counts p 0
 
         marked_now : (f : ℕ → Deed)
-            → (λ (q : ℕ). mark_of (get_or marks q 65535))
-            ≡ upd (λ (q : ℕ). mark_of (get_or b.marks q 65535)) p
+            → (λ (q : ℕ). mark_of (get_or marks q None))
+            ≡ upd (λ (q : ℕ). mark_of (mark_in b q)) p
             (some (length (tabulate n (λ k. event_of (f (place_in b p k))))))
         marked_now f =
-            seen_set mark_of b.marks p n 65535 l
-            ∙ rw (le-leb n 256 (w.room p), tabulate_length n (λ k. event_of (f (place_in b p k))))
-
-  -- one more event in p's history
-  module _ (p i : ℕ) (lp : p < length b.counts) (le : length b.entries ≡ 4096) (l16 : p < 16)
-      (few : get_or b.counts p 0 < 256) where
-    abbrev n : ℕ
-    n = get_or b.counts p 0
-
-    abbrev place : ℕ
-    place = 256 * p + n
-
-    abbrev counts : List ℕ
-    counts = set b.counts p (n + 1)
-
-    abbrev Raised : ℕ → Type 0
-    Raised q =
-        (get_or b.counts q 0 ≤ get_or counts q 0)
-        × (get_or counts q 0 ≤ get_or b.counts q 0 + 1)
-        × (get_or counts q 0 ≤ 256)
-
-    raised : (q : ℕ) → Raised q
-    raised =
-        by_index Raised p
-        (let e = get_or-set_same b.counts p (n + 1) 0 lp in (omega (arith, e), omega (arith, e), omega (arith, e)))
-        (λ q d. let e = get_or-set_other b.counts p q (n + 1) 0 (λ z. d (sym z)) in
-        (omega (arith, e), omega (arith, e), omega (arith, e, w.room q)))
-
-    module _ (f : ℕ → Deed) where
-      abbrev old : ℕ → ℕ → Event
-      old q k = event_of (f (place_in b q k))
-
-      abbrev new : ℕ → ℕ → Event
-      new q k = event_of (f (get_or (set b.entries place i) (256 * q + k) 0))
-
-      kept : (q k : ℕ) → (256 * q + k ≡ place → ⊥) → new q k ≡ old q k
-      kept q k apart = ap (λ (x : ℕ). event_of (f x)) (get_or-set_other b.entries place (256 * q + k) i 0 apart)
-
-      abbrev before : ℕ → List Event
-      before q = tabulate (get_or b.counts q 0) (old q)
-
-      abbrev after : List Event
-      after = before p ++ (event_of (f i) ∷ [])
-
-      entered : (q : ℕ) → tabulate (get_or counts q 0) (new q) ≡ upd before p after q
-      entered =
-          by_index (λ q. tabulate (get_or counts q 0) (new q) ≡ upd before p after q) p
-          (ap (λ (m : ℕ). tabulate m (new p)) (get_or-set_same b.counts p (n + 1) 0 lp)
-          ∙ tabulate_more n (new p)
-          ∙ ap₂ (λ (l : List Event) (x : Event). l ++ (x ∷ []))
-          (tabulate_cong n (new p) (old p) (λ k m. kept p k (λ z. omega arith)))
-          (ap (λ (x : ℕ). event_of (f x)) (get_or-set_same b.entries place i 0 (omega arith)))
-          ∙ sym (upd_same before p after))
-          (λ q d. ap (λ (m : ℕ). tabulate m (new q)) (get_or-set_other b.counts p q (n + 1) 0 (λ z. d (sym z)))
-          ∙ tabulate_cong (get_or b.counts q 0) (new q) (old q) (λ k m. kept q k (λ z. omega (arith, d, w.room q)))
-          ∙ sym (upd_other before p q after d))
-
-    pub adds :
-        Becomes b (λ f h. add_event p (event_of (f i)) h)
-        (record { entries = set b.entries place i; counts = counts; lines = b.lines; marks = b.marks })
-    unfolding history_seen add_event
-    adds =
-        record {
-          seen = λ f j.
-              record {
-                events = fun_ext (entered f) j;
-                line = (history_seen f b).line;
-                mark = (history_seen f b).mark;
-              };
-          whole =
-              record {
-                room = λ q. (raised q).2;
-                line = λ q. omega (arith, (raised q).0, w.line q);
-                mark = λ q m. omega (arith, (raised q).0, w.mark q m);
-              };
-          grown = λ q. (raised q).1;
-        }
+            seen_set mark_of b.marks p (Some n) None l
+            ∙ rw (tabulate_length n (λ k. event_of (f (place_in b p k))))

@@ -3,7 +3,13 @@
 use Prim.Native.Nat.{ℕ, zero, suc, ◌+◌, ◌<◌, ◌≤◌}
 use mathlib.Core.Path.{◌≡◌, refl, sym, ap, ◌∙◌}
 use mathlib.Core.Bool.{Bool, true, false, cond, ◌&&◌, ◌||◌, beq}
-use mathlib.Core.List.{List, [], ◌∷◌, ◌++◌}
+use mathlib.Core.List.{List, [], ◌∷◌, ◌++◌, map, map-append}
+use Rattle.std.proofs.Common.{None, Some, add-one}
+use Rattle.std.specs.List.{filter}
+use Rattle.std.proofs.lemmas.List.{take_more}
+use Rattle.std.proofs.lemmas.List.Elements.{filter-append}
+use Rattle.std.proofs.lemmas.List.Sums.{length-filter, count_by-le-length}
+use lib.ListN.{length-map, length-take}
 use mathlib.Core.Option.{none}
 use lib.ListN.{length, get_or, take, length-append}
 use lib.Dec.{eqb, leb}
@@ -21,12 +27,12 @@ use Rattle.model.proofs.laws.Lists.{tabulate_more, tabulate_length}
 use Rattle.model.proofs.laws.TopologyLaws.{accepted_sizes, sender_planned, receiver_planned}
 use Rattle.model.proofs.laws.HistoryLaws.{sees, unseen, place_early}
 use Rattle.account.specs.declared.Deed.{Deed}
-use Rattle.slow.specs.declared.past.Past.{Past}
-use Rattle.slow.specs.declared.histories.Histories.{Histories}
+use Rattle.slow.specs.declared.deeds.Past.{Past}
+use Rattle.slow.specs.declared.events.Histories.{Histories}
 use Rattle.account.specs.Deeds.{did}
 use Rattle.account.specs.Contents.{on_receipt}
 use Rattle.slow.specs.Kept.{latest, deed_at}
-use Rattle.slow.specs.Seen.{event_of, has_mark_in, place_in, history_seen, Whole, on_events, Fits, AllFit}
+use Rattle.slow.specs.Seen.{event_of, mark_in, place_in, history_seen, on_events, Fits, AllFit}
 use Rattle.slow.specs.Seen.{Becomes, Follows}
 use Rattle.slow.proofs.Changes.{take_tabulate}
 
@@ -68,6 +74,47 @@ module _ (f : ℕ → Deed) (b : Histories) (p : ℕ) (sends : Bool) (c k : ℕ)
           rw (e, sees direction c (tabulate k event) (event k) e) (sym (length-append so_far ((event k).body ∷ [])))
       go (fails e) = rw (e, unseen direction c (tabulate k event) (event k) e)
 
+-- those that the code counts
+module _ (f : ℕ → Deed) (b : Histories) (p : ℕ) (sends : Bool) (c : ℕ) where
+  abbrev counts : Deed → Bool
+  counts d = beq (did 1 d) sends && eqb c d.channel
+
+  abbrev row : List ℕ
+  row = get_or b.entries p []
+
+  pub events_within : (n : ℕ) → length (filter counts (map f (take n row))) ≤ n
+  events_within n =
+      omega (
+        arith,
+        length-filter counts (map f (take n row)),
+        count_by-le-length counts (map f (take n row)),
+        length-map (take n row) f,
+        length-take n row,
+      )
+
+  pub events_counted : (n : ℕ) → n ≤ length row
+      → length (filter counts (map f (take n row))) ≡ length (on_events f b p sends c n)
+  unfolding on_events tabulate bodies_on
+  events_counted zero l = refl
+  events_counted (suc n) l =
+      rw (
+        ← add-one n,
+        take_more row n 0 (omega arith),
+        map-append f (take n row) (get_or row n 0 ∷ []),
+        filter-append counts (map f (take n row)) (f (get_or row n 0) ∷ []),
+        length-append (filter counts (map f (take n row))) (filter counts (f (get_or row n 0) ∷ [])),
+        events_counted n (omega arith),
+      )
+      (go (counts (f (place_in b p n))) ∙ on_events_more f b p sends c n
+      ∙ ap (λ (m : ℕ). length (on_events f b p sends c m)) (add-one n))
+    where
+      so_many : ℕ
+      so_many = length (on_events f b p sends c n)
+
+      go : (t : Bool) → so_many + length (cond t (f (place_in b p n) ∷ []) []) ≡ cond t (so_many + 1) so_many
+      go true = refl
+      go false = omega arith
+
 -- With at most n sends on c in the first m events, the one that has n before it, or the end, stands at m or later.
 abbrev Late : ℕ → ℕ → ℕ → List Event → Type 0
 Late c m n es = m ≤ length es → length (bodies_on sent c (take m es)) ≤ n → m ≤ place_of_send c n es
@@ -98,28 +145,26 @@ after_place c m n es l = go (test (leb (length (bodies_on sent c (take m es))) n
     go (fails e) = e ∙ sym (lt-leb m (place_of_send c n es) (place_early c m n es (leb-false _ n e)))
 
 -- What the code tells of the next message of a channel: no mark, or the sends before the mark against the receives.
-module _ (T : Topology) (f : ℕ → Deed) (b : Histories) (c : ℕ) (w : Whole b) where
+module _ (T : Topology) (f : ℕ → Deed) (b : Histories) (c : ℕ) where
   abbrev p : ℕ
   p = sender T c
 
   abbrev q : ℕ
   q = receiver T c
 
-  pub not_after : has_mark_in b p ≡ false → false ≡ sent_after_mark T c (history_seen f b)
+  pub not_after : mark_in b p ≡ None → false ≡ sent_after_mark T c (history_seen f b)
   unfolding sent_after_mark history_seen is_after
   not_after e = rw e
 
-  pub tells_after : has_mark_in b p ≡ true
-      → leb (length (on_events f b p true c (get_or b.marks p 65535)))
-      (length (on_events f b q false c (get_or b.counts q 0)))
+  pub tells_after : (m : ℕ) → mark_in b p ≡ Some m
+      → leb (length (on_events f b p true c m)) (length (on_events f b q false c (get_or b.counts q 0)))
       ≡ sent_after_mark T c (history_seen f b)
   unfolding sent_after_mark looked_at history_seen is_after on_events
-  tells_after e =
-      let m : ℕ = get_or b.marks p 65535 in
+  tells_after m e =
       let count : ℕ = get_or b.counts p 0 in
       let event : ℕ → Event = λ k. event_of (f (place_in b p k)) in
       let n : ℕ = length (bodies_on received c (tabulate (get_or b.counts q 0) (λ k. event_of (f (place_in b q k))))) in
-      let within : m ≤ count = w.mark p (leb-true m 256 e) in
+      let within : m ≤ count = b.mark p m e in
       rw (e, ← take_tabulate m count event within)
       (after_place c m n (tabulate count event) (rw (tabulate_length count event) within))
 
@@ -137,7 +182,7 @@ not_send d e = rw (eqb-true d.kind 2 e)
 pub follows : {past : Past} {b r : Histories} {change : (ℕ → Deed) → History → History} {now : History → History}
     → Becomes b change r → change (deed_at past) (history_seen (deed_at past) b) ≡ now (history_seen (deed_at past) b)
     → Follows past b now r
-follows h e = record { seen = h.seen _ ∙ e; whole = h.whole; grown = h.grown }
+follows h e = record { seen = h.seen _ ∙ e; grown = h.grown }
 
 -- a receive of a body: the receiver is marked first, if it is to be, then it enters
 pub receives_body : (T : Topology) (d : Deed) (h now after : History) (at : ℕ) (late asked : Bool) → did 2 d ≡ true

@@ -3,7 +3,7 @@ use Prim.Native.Nat.{ℕ, zero, suc, ◌+◌, ◌<◌, ◌≤◌}
 use mathlib.Core.Path.{◌≡◌, refl, sym, ap, ◌∙◌}
 use mathlib.Core.Bool.{Bool, true, false, cond, ◌&&◌, and-false}
 use mathlib.Core.List.{List, [], ◌∷◌, ◌++◌, append-nil, append_assoc}
-use lib.ListN.{get_or, length, take, length-append, length-take, drop_of_length-le}
+use lib.ListN.{length, take, length-append, length-take, drop_of_length-le}
 use lib.Seq.{take_all, take-append-le, drop-append-le}
 use lib.Dec.{leb, ltb}
 use borrow.Author.Tests.{ltb-true, ltb-false, leb-true, leb-false}
@@ -11,15 +11,16 @@ use native.Mathlib.Omega.{arith}
 use native.Mathlib.Nat.{min-le_right}
 use Rattle.account.specs.declared.Deed.{Deed}
 use Rattle.model.specs.Channel.{entry_of}
+use Rattle.model.specs.History.{is_after}
 use Rattle.account.specs.Deeds.{on_channel}
 use Rattle.slow.specs.Kept.{deed_at}
 use native.Mathlib.Numerals.{add-one}
 use Rattle.model.specs.declared.Entry.{Entry}
 use Rattle.model.proofs.laws.Tests.{Tested, holds, fails, test}
 use Rattle.model.proofs.laws.Functions.{Indices, same, other, indices}
-use Rattle.slow.specs.declared.past.Past.{Past}
-use Rattle.slow.specs.declared.histories.Histories.{Histories}
-use Rattle.slow.specs.Seen.{place_in, kind_of, sent_by, between}
+use Rattle.slow.specs.declared.deeds.Past.{Past}
+use Rattle.slow.specs.declared.events.Histories.{Histories}
+use Rattle.slow.specs.Seen.{mark_of, mark_in, place_in, kind_of, sent_by, between}
 
 -- the one entry, if it is one
 abbrev one_if : Bool → Entry → List Entry
@@ -70,7 +71,7 @@ module _ (turned : Bool) (past : Past) (b : Histories) (p c from to : ℕ) where
   here k = deed_at past (place_in b p k)
 
   abbrev entry : ℕ → Entry
-  entry k = entry_of (kind_of turned (leb (get_or b.marks p 0) k)) (here k).body
+  entry k = entry_of (kind_of turned (is_after (mark_of (mark_in b p)) k)) (here k).body
 
   abbrev fits : ℕ → Bool
   fits k = on_channel 1 c (here k) && (leb from (length (sent k)) && ltb (length (sent k)) to)

@@ -1,13 +1,9 @@
 -- The first entry of a channel, by the arrays of places and lengths.
-use Prim.Native.Nat.{ℕ, ◌<◌}
-use mathlib.Core.Path.{◌≡◌, ap, ◌∙◌}
-use mathlib.Core.List.{List}
-use lib.ListN.{get_or, length}
+use Rattle.std.proofs.Common.{◌≡◌, ℕ, ◌<◌, List, get_or, ap}
 use Rattle.model.specs.declared.Places.{Places}
 use Rattle.model.specs.Notation.{tabulate}
 use Rattle.model.specs.Channel.{held, entry_of, entry_at, entries}
 use Rattle.model.specs.State.{no_places, entries_in}
-use Rattle.model.proofs.laws.Functions.{get_d_within}
 use Rattle.model.proofs.laws.ChannelLaws.{entries_first}
 use Rattle.account.specs.Judging.{first_of}
 
@@ -16,9 +12,6 @@ module _ (places : List Places) (lengths : List ℕ) (c : ℕ) where
   unfolding entries tabulate entry_of
   first_none e = rw e
 
-  -- d: what is read past the array
-  pub first_some : (d : Places) → c < length places → 0 < get_or lengths c 0
-      → first_of (entries_in places lengths c) ≡ entry_at (held (get_or places c d) (get_or lengths c 0)) 0
-  first_some d within full =
-      ap first_of (entries_first (held (get_or places c no_places) (get_or lengths c 0)) full)
-      ∙ rw (get_d_within places c no_places d within)
+  pub first_some : 0 < get_or lengths c 0
+      → first_of (entries_in places lengths c) ≡ entry_at (held (get_or places c no_places) (get_or lengths c 0)) 0
+  first_some full = ap first_of (entries_first (held (get_or places c no_places) (get_or lengths c 0)) full)

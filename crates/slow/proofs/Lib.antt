@@ -1,9 +1,10 @@
 -- Laws that the proofs of several functions cite.
 pub mod FirstEntry
-pub mod Lengths
 pub mod Pasts
 pub mod Copying
+pub mod Below
 pub mod Changes
+pub mod Entering
 pub mod Feeding
 pub mod Filling
 pub mod OnChannel

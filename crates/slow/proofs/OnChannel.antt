@@ -1,13 +1,13 @@
 -- Laws of what the histories tell: a word, the sends on a channel, and the marker among those under way.
-use Prim.Native.Nat.{ℕ, zero, suc, ◌+◌, ◌-◌, ◌<◌, ◌≤◌}
+use Prim.Native.Nat.{ℕ, zero, suc, ◌+◌, ◌-◌, ◌≤◌}
 use mathlib.Core.Path.{◌≡◌, refl, sym, ap, ap₂, ◌∙◌}
 use mathlib.Core.Bool.{Bool, true, false, cond, not, ◌&&◌}
 use mathlib.Core.List.{List, [], ◌∷◌, ◌++◌, append-nil, append_assoc}
-use mathlib.Core.Option.{Option, none, some}
+use mathlib.Core.Option.{Option}
 use lib.ListN.{length, get_or, take, drop, length-append, length-drop, drop_of_length-le}
 use lib.Seq.{take_all, take-nil, drop-nil, drop-drop}
-use lib.Dec.{eqb, leb}
-use borrow.Author.Tests.{lt-leb, leb-false, eqb-true, eqb-false, eq-eqb, ne_eqb}
+use lib.Dec.{eqb}
+use borrow.Author.Tests.{eqb-true, eqb-false, eq-eqb, ne_eqb}
 use native.Mathlib.Omega.{arith}
 use Rattle.model.specs.declared.Topology.{Topology}
 use Rattle.model.specs.declared.Entry.{Entry}
@@ -21,13 +21,13 @@ use Rattle.model.proofs.laws.Tests.{Tested, holds, fails, test}
 use Rattle.model.proofs.laws.Lists.{tabulate_more, tabulate_length}
 use Rattle.model.proofs.laws.HistoryLaws.{word_of, word_sent, word_received}
 use Rattle.account.specs.declared.Deed.{Deed}
-use Rattle.slow.specs.declared.past.Past.{Past}
-use Rattle.slow.specs.declared.histories.Histories.{Histories}
+use Rattle.slow.specs.declared.deeds.Past.{Past}
+use Rattle.slow.specs.declared.events.Histories.{Histories}
 use Rattle.account.specs.Deeds.{did, on_channel}
-use Rattle.account.specs.Contents.{turned_by, sends, under_way, with_marker}
-use Rattle.slow.specs.Kept.{deed_at}
-use Rattle.slow.specs.Seen.{event_of, mark_of, place_in, history_seen, Whole, on_events, kind_of, sent_by, between}
-use Rattle.slow.specs.Seen.{with_marker_if}
+use Rattle.account.specs.Contents.{turned_by, sends, behind, under_way, with_marker}
+use Rattle.slow.specs.Kept.{deed_at, past_of}
+use Rattle.slow.specs.Seen.{event_of, mark_of, mark_in, place_in, history_seen, on_events, kind_of, sent_by, between}
+use Rattle.slow.specs.Seen.{Here, with_marker_if}
 use Rattle.account.proofs.Sends.{sends_snoc, sends_unseen, sends_length}
 
 -- one more event of a word
@@ -71,33 +71,24 @@ kind_says true false b = refl
 kind_says false true b = refl
 kind_says false false b = refl
 
-after_is : (m k : ℕ) → k < 256 → is_after (mark_of m) k ≡ leb m k
-unfolding is_after
-after_is m k l = go (test (leb m 256))
-  where
-    go : Tested (leb m 256) → is_after (cond (leb m 256) (some m) none) k ≡ leb m k
-    go (holds e) = rw e
-    go (fails e) = rw e (sym (lt-leb m k (omega (arith, l, leb-false m 256 e))))
-
 -- The sends that the code finds are those of the history.
-module _ (t : Bool) (past : Past) (b : Histories) (p c : ℕ)
-    (inside : get_or b.marks p 0 ≡ get_or b.marks p 65535) where
+module _ (t : Bool) (past : Past) (b : Histories) (p c : ℕ) where
   abbrev ev : ℕ → Event
   ev k = event_of (deed_at past (place_in b p k))
 
   abbrev mark : Option ℕ
-  mark = mark_of (get_or b.marks p 65535)
+  mark = mark_of (mark_in b p)
 
-  sent_are : (n : ℕ) → n ≤ 256 → sent_by t past b p c n ≡ sends t mark c 0 (tabulate n ev)
+  sent_are : (n : ℕ) → sent_by t past b p c n ≡ sends t mark c 0 (tabulate n ev)
   unfolding sent_by tabulate sends
-  sent_are zero l = refl
-  sent_are (suc n) l = go (test (on_channel 1 c (deed_at past (place_in b p n)))) (sent_are n (omega arith))
+  sent_are zero = refl
+  sent_are (suc n) = go (test (on_channel 1 c (deed_at past (place_in b p n)))) (sent_are n)
     where
       d : Deed
       d = deed_at past (place_in b p n)
 
       late : Bool
-      late = leb (get_or b.marks p 0) n
+      late = is_after mark n
 
       xs : List Event
       xs = tabulate n ev
@@ -108,8 +99,7 @@ module _ (t : Bool) (past : Past) (b : Histories) (p c : ℕ)
       one : Message d.body (turned_by t (is_after mark (0 + length xs))) ≡ entry_of (kind_of t late) d.body
       one =
           ap (λ (x : Bool). Message d.body (turned_by t x))
-          (ap (is_after mark) there ∙ after_is (get_or b.marks p 65535) n (omega arith)
-          ∙ ap (λ (m : ℕ). leb m n) (sym inside))
+          (ap (is_after mark) there)
           ∙ sym (kind_says t late d.body)
 
       go : Tested (on_channel 1 c d) → sent_by t past b p c n ≡ sends t mark c 0 xs
@@ -201,19 +191,31 @@ module _ {S way : List Entry} {marker : Bool} {received total n at : ℕ}
       single true = refl
       single false = refl
 
--- the sends and receives that the histories tell
-module _ (T : Topology) (past : Past) (b : Histories) (t : Bool) (c p q : ℕ) (w : Whole b)
-    (inside : get_or b.marks p 0 ≡ get_or b.marks p 65535) (ep : p ≡ sender T c) (eq : q ≡ receiver T c) where
+-- The sends and receives that the histories tell: what is counted of them says where the entries are pushed.
+module _ {T : Topology} {past : Past} {b : Histories} {t marker : Bool} {c p q : ℕ}
+    (h : Here T past b t marker c) (ep : p ≡ sender T c) (eq : q ≡ receiver T c) where
   abbrev S : List Entry
   S = sent_by t past b p c (get_or b.counts p 0)
 
-  pub sends_told : length (on_events (deed_at past) b p true c (get_or b.counts p 0)) ≡ length S
-  unfolding on_events
-  sends_told =
-      sym (sends_length t c (mark_of (get_or b.marks p 65535)) 0 _)
-      ∙ ap length (sym (sent_are t past b p c inside (get_or b.counts p 0) (w.room p)))
+  abbrev way : List Entry
+  way = under_way T t (history_seen (deed_at past) b) c
 
-  pub under_way_told : drop (length (on_events (deed_at past) b q false c (get_or b.counts q 0))) S
-      ≡ under_way T t (history_seen (deed_at past) b) c
+  same_sends : S
+      ≡ sends t (mark_of (mark_in b p)) c 0
+      (tabulate (get_or b.counts p 0) (λ k. event_of (deed_at past (place_in b p k))))
+  same_sends =
+      sent_are t past b p c (get_or b.counts p 0)
+
+  pub split_by : {received total n at : ℕ}
+      → received ≡ length (on_events (deed_at past) b q false c (get_or b.counts q 0))
+      → total ≡ length (on_events (deed_at past) b p true c (get_or b.counts p 0))
+      → n ≡ behind c (past_of past) → at ≡ cond marker (received + (total - received - n)) total
+      → Split S way marker received total (behind c (past_of past)) at
   unfolding on_events under_way history_seen
-  under_way_told = rw (← ep, ← eq, sent_are t past b p c inside (get_or b.counts p 0) (w.room p))
+  split_by r a is e =
+      record {
+        all = a ∙ sym (sends_length t c (mark_of (mark_in b p)) 0 _) ∙ ap length (sym same_sends);
+        under_way_lem = rw (r, ← ep, ← eq, same_sends);
+        here = rw is at e;
+        fits = h.fits;
+      }

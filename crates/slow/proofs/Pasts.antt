@@ -1,16 +1,19 @@
--- Laws of the past as the code holds it, and of a loop over it: what is told of the first i deeds, deed by deed.
-use Prim.Native.Nat.{ℕ, zero, suc, ◌+◌, ◌<◌, ◌≤◌}
-use mathlib.Core.Path.{◌≡◌, refl, ap₂}
-use mathlib.Core.Bool.{Bool, true, false, cond, ◌||◌}
-use mathlib.Core.List.{List, [], ◌∷◌}
-use native.Mathlib.Omega.{arith}
-use native.Mathlib.Numerals.{add-one}
+-- Laws of the past as the code holds it, and of what is told of it: the chains of the code go over the deeds in the
+-- order of the calls, or the latest first, as the second account does.
+use Rattle.std.proofs.Common.{◌≡◌, refl, sym, ap, ap₂, ◌∙◌, ℕ, zero, suc, ◌+◌, ◌-◌, ◌<◌, ◌≤◌}
+use Rattle.std.proofs.Common.{Bool, true, false, cond, not, ◌||◌}
+use Rattle.std.proofs.Common.{List, [], ◌∷◌, length, get_or, take, drop, arith, add-one}
+use Rattle.std.proofs.Math.Bool.{or-false}
+use mathlib.Core.List.{reverse, reverse_aux}
+use Rattle.std.specs.List.{fold, count_by, list_any, prefix_len, take_while}
+use Rattle.std.proofs.lemmas.List.{take_more, reverse-append, length-reverse, length-drop, take-append-drop}
+use Rattle.std.proofs.lemmas.List.Sums.{sum_by-cons, take_while-cons, prefix_len-le-length}
+use Rattle.std.proofs.lemmas.List.Folds.{length-prefix_len}
+use lib.Seq.{take_all, take-append-le}
 use Rattle.account.specs.declared.Deed.{Deed}
-use Rattle.slow.specs.declared.past.Past.{Past}
 use Rattle.account.specs.Deeds.{number, any, since}
-use Rattle.slow.specs.Kept.{latest, deed_at, past_of}
+use Rattle.slow.specs.Kept.{latest, nothing}
 
--- one more
 pub latest_more : (n : ℕ) (f : ℕ → Deed) → latest (n + 1) f ≡ f n ∷ latest n f
 unfolding latest
 latest_more n f = rw (add-one n)
@@ -20,105 +23,100 @@ unfolding latest
 latest_cong zero f g h = refl
 latest_cong (suc n) f g h = ap₂ ◌∷◌ (h n (omega arith)) (latest_cong n f g (λ i l. h i (omega arith)))
 
--- a number that grows by one at most stays within one that grows by one
-pub at_most : (t : Bool) {n next k : ℕ} → next ≡ cond t (n + 1) n → n ≤ k → next ≤ k + 1
-at_most true e l = omega arith
-at_most false e l = omega arith
+-- the first n of an array, the latest first
+pub latest_is : (n : ℕ) (deeds : List Deed) → n ≤ length deeds
+    → reverse (take n deeds) ≡ latest n (λ i. get_or deeds i nothing)
+unfolding latest
+latest_is zero deeds l = refl
+latest_is (suc n) deeds l =
+    let shorter = latest_is n deeds (omega arith) in
+    rw (
+      ← add-one n,
+      take_more deeds n nothing (omega arith),
+      reverse-append (take n deeds) (get_or deeds n nothing ∷ []),
+    )
+    (ap (λ (ds : List Deed). get_or deeds n nothing ∷ ds) shorter)
 
--- x is what the first i deeds tell
-pub record SoFar {B : Type 0} (told : List Deed → B) (past : Past) (x : B) (i : ℕ) : Type 0 where
-  pub within : i ≤ past.count
-  pub is : x ≡ told (latest i (deed_at past))
+-- a fold over the deeds in order tells what is told of them, the latest first, deed by deed
+pub fold_tells : {B : Type 0} (next : B → Deed → B) (told : List Deed → B)
+    → ((d : Deed) (ds : List Deed) → told (d ∷ ds) ≡ next (told ds) d) → (ds before : List Deed)
+    → fold next (told before) ds ≡ told (reverse_aux ds before)
+fold_tells next told more [] before = refl
+fold_tells next told more (d ∷ ds) before = rw (← more d before) (fold_tells next told more ds (d ∷ before))
 
-module _ {B : Type 0} (told : List Deed → B) (past : Past) where
-  pub starts : SoFar told past (told []) 0
-  unfolding latest
-  starts = record { within = omega arith; is = refl }
+any_is : (test : Deed → Bool) (ds : List Deed) → list_any test ds ≡ any test ds
+unfolding any
+any_is test [] = refl
+any_is test (d ∷ ds) = rw (any_is test ds)
 
-  pub goes_on : (i : ℕ) (next : B) → i < past.count → next ≡ told (deed_at past i ∷ latest i (deed_at past))
-      → SoFar told past next (i + 1)
-  goes_on i next l e = record { within = omega arith; is = rw (latest_more i (deed_at past)) e }
+number_is : (test : Deed → Bool) (ds : List Deed) → count_by test ds ≡ number test ds
+unfolding number
+number_is test [] = refl
+number_is test (d ∷ ds) =
+    rw (sum_by-cons (λ (x : Deed). cond (test x) 1 0) d ds, number_is test ds) (go (test d))
+  where
+    go : (b : Bool) → cond b 1 0 + number test ds ≡ cond b (number test ds + 1) (number test ds)
+    go true = omega arith
+    go false = omega arith
 
-  pub all_told_lem : {x : B} {i : ℕ} → SoFar told past x i → past.count ≤ i → x ≡ told (past_of past)
-  unfolding past_of
-  all_told_lem {x} {i} h l = let e : i ≡ past.count = omega (arith, h.within) in rw e at h.is
+since_is : (stop : Deed → Bool) (ds : List Deed) → take_while (λ d. not (stop d)) ds ≡ since stop ds
+unfolding since
+since_is stop [] = refl
+since_is stop (d ∷ ds) =
+    take_while-cons (λ (x : Deed). not (stop x)) d ds ∙ rw (since_is stop ds) (go (stop d))
+  where
+    go : (b : Bool) → cond (not b) (d ∷ since stop ds) [] ≡ cond b [] (d ∷ since stop ds)
+    go true = refl
+    go false = refl
 
--- Whether one of the first i deeds, since the latest stop, passes a test, and how many do.
-pub record FoundBy (stop test : Deed → Bool) (past : Past) (x : Bool) (i : ℕ) : Type 0 where
-  pub so_far : SoFar (λ ds. any test (since stop ds)) past x i
+take_reverse : (ds : List Deed) (n : ℕ) → n ≤ length ds → take n (reverse ds) ≡ reverse (drop (length ds - n) ds)
+take_reverse ds n l =
+    let k : ℕ = length ds - n in
+    let last : List Deed = reverse (drop k ds) in
+    let long : length last ≡ n = omega (arith, length-reverse (drop k ds), length-drop k ds) in
+    ap (λ (xs : List Deed). take n (reverse xs)) (sym (take-append-drop k ds))
+    ∙ ap (take n) (reverse-append (take k ds) (drop k ds))
+    ∙ take-append-le n last (reverse (take k ds)) (omega (arith, long)) ∙ take_all n last (omega (arith, long))
 
-pub record NumberBy (stop test : Deed → Bool) (past : Past) (n i : ℕ) : Type 0 where
-  pub so_far : SoFar (λ ds. number test (since stop ds)) past n i
+-- the part of some deeds after the latest that passes a test, by how many there are
+pub tail_is : (stop : Deed → Bool) (ds : List Deed) (n : ℕ) {past : List Deed} → reverse ds ≡ past
+    → n ≡ length (take_while (λ d. not (stop d)) (reverse ds))
+    → reverse (take (length ds - (length ds - n)) (drop (length ds - n) ds)) ≡ since stop past
+tail_is stop ds n {past} e k =
+    let so : n ≡ prefix_len (λ d. not (stop d)) (reverse ds) = k ∙ length-prefix_len (λ d. not (stop d)) (reverse ds) in
+    let fits = prefix_len-le-length (λ d. not (stop d)) (reverse ds) in
+    ap (λ (xs : List Deed). reverse xs)
+    (take_all (length ds - (length ds - n)) (drop (length ds - n) ds) (omega (arith, length-drop (length ds - n) ds)))
+    ∙ sym (take_reverse ds n (omega (arith, so, fits, length-reverse ds)))
+    ∙ ap (λ (m : ℕ). take m (reverse ds)) so ∙ ap (take_while (λ d. not (stop d))) e ∙ since_is stop past
 
-module _ (stop test : Deed → Bool) where
-  abbrev found : List Deed → Bool
-  found ds = any test (since stop ds)
+-- what is told of deeds in their order, and of them the latest first
+any_reverse : (test : Deed → Bool) (ds before : List Deed)
+    → list_any test (reverse_aux ds before) ≡ (list_any test ds || list_any test before)
+any_reverse test [] before = refl
+any_reverse test (d ∷ ds) before = any_reverse test ds (d ∷ before) ∙ go (test d) (list_any test ds)
+  where
+    go : (a b : Bool) → (b || (a || list_any test before)) ≡ ((a || b) || list_any test before)
+    go true true = refl
+    go true false = refl
+    go false b = refl
 
-  abbrev counted : List Deed → ℕ
-  counted ds = number test (since stop ds)
+pub any_told : (test : Deed → Bool) (ds : List Deed) {past : List Deed} → reverse ds ≡ past
+    → list_any test ds ≡ any test past
+any_told test ds {past} e =
+    sym (or-false (list_any test ds)) ∙ sym (any_reverse test ds []) ∙ ap (list_any test) e ∙ any_is test past
 
-  found_more : (d : Deed) (ds : List Deed) → found (d ∷ ds) ≡ cond (stop d) false (test d || found ds)
-  unfolding any since
-  found_more d ds = go (stop d)
-    where
-      go : (b : Bool) → any test (cond b [] (d ∷ since stop ds)) ≡ cond b false (test d || found ds)
-      go true = refl
-      go false = refl
+count_reverse : (test : Deed → Bool) (ds before : List Deed)
+    → count_by test (reverse_aux ds before) ≡ count_by test ds + count_by test before
+count_reverse test [] before = omega arith
+count_reverse test (d ∷ ds) before =
+    omega (
+      arith,
+      count_reverse test ds (d ∷ before),
+      sum_by-cons (λ (x : Deed). cond (test x) 1 0) d ds,
+      sum_by-cons (λ (x : Deed). cond (test x) 1 0) d before,
+    )
 
-  counted_more : (d : Deed) (ds : List Deed)
-      → counted (d ∷ ds) ≡ cond (stop d) 0 (cond (test d) (counted ds + 1) (counted ds))
-  unfolding number since
-  counted_more d ds = go (stop d)
-    where
-      go : (b : Bool)
-          → number test (cond b [] (d ∷ since stop ds)) ≡ cond b 0 (cond (test d) (counted ds + 1) (counted ds))
-      go true = refl
-      go false = refl
-
-  counted_within : (n : ℕ) (f : ℕ → Deed) → counted (latest n f) ≤ n
-  unfolding number since latest
-  counted_within zero f = omega arith
-  counted_within (suc n) f = rw (counted_more (f n) (latest n f)) (go (stop (f n)) (test (f n)) (counted_within n f))
-    where
-      go : (b t : Bool) → counted (latest n f) ≤ n
-          → cond b 0 (cond t (counted (latest n f) + 1) (counted (latest n f))) ≤ suc n
-      go true t h = omega arith
-      go false true h = omega arith
-      go false false h = omega arith
-
-module _ {stop test : Deed → Bool} {past : Past} where
-  pub none_found : FoundBy stop test past false 0
-  unfolding any since
-  none_found = record { so_far = starts (found stop test) past }
-
-  pub found_on : {x next : Bool} {i : ℕ} → FoundBy stop test past x i → i < past.count
-      → next ≡ cond (stop (deed_at past i)) false (test (deed_at past i) || x) → FoundBy stop test past next (i + 1)
-  found_on {x} {next} {i} h l e =
-      record {
-        so_far = goes_on (found stop test) past i next l
-            (rw (found_more stop test (deed_at past i) (latest i (deed_at past)), ← h.so_far.is) e);
-      }
-
-  pub all_found : {x : Bool} {i : ℕ} → FoundBy stop test past x i → past.count ≤ i
-      → x ≡ any test (since stop (past_of past))
-  all_found h l = all_told_lem (found stop test) past h.so_far l
-
-  pub none_counted : NumberBy stop test past 0 0
-  unfolding number since
-  none_counted = record { so_far = starts (counted stop test) past }
-
-  pub counted_on : {n next i : ℕ} → NumberBy stop test past n i → i < past.count
-      → next ≡ cond (stop (deed_at past i)) 0 (cond (test (deed_at past i)) (n + 1) n)
-      → NumberBy stop test past next (i + 1)
-  counted_on {n} {next} {i} h l e =
-      record {
-        so_far = goes_on (counted stop test) past i next l
-            (rw (counted_more stop test (deed_at past i) (latest i (deed_at past)), ← h.so_far.is) e);
-      }
-
-  pub all_counted : {n i : ℕ} → NumberBy stop test past n i → past.count ≤ i
-      → n ≡ number test (since stop (past_of past))
-  all_counted h l = all_told_lem (counted stop test) past h.so_far l
-
-  pub still_few : {n i : ℕ} → NumberBy stop test past n i → i < past.count → past.count ≤ 256 → n < 256
-  still_few {n} {i} h l k = omega (arith, counted_within stop test i (deed_at past), h.so_far.is)
+pub number_told : (test : Deed → Bool) (ds : List Deed) {past : List Deed} → reverse ds ≡ past
+    → count_by test ds ≡ number test past
+number_told test ds {past} e = omega (arith, count_reverse test ds [], ap (count_by test) e, number_is test past)

@@ -1,12 +1,12 @@
 -- The past as the code holds it, and a call before it is answered.
-use Rattle.std.specs.Prelude.{ℕ, zero, suc, ◌≤◌, false, List, [], ◌∷◌, get_or}
-use Rattle.model.specs.declared.Listed.{Listed}
+use Rattle.std.specs.Prelude.{ℕ, zero, suc, ◌≡◌, Bool, false, List, [], ◌∷◌, get_or}
+use Rattle.model.specs.declared.Record as call
 use Rattle.model.specs.Heard.{heard}
 use Rattle.model.specs.Heard as hears
 use Rattle.model.specs.Record.{Fields, fields_of}
-use Rattle.model.specs.CallList.{unlisted}
+use Rattle.model.specs.CallList.{call_at}
 use Rattle.account.specs.declared.Deed.{Deed}
-use Rattle.slow.specs.declared.past.Past.{Past}
+use Rattle.slow.specs.declared.deeds.Past.{Past}
 use Rattle.slow.specs.declared.CallAnswer.{CallAnswer}
 use Rattle.account.specs.Deeds.{deed_by}
 use Rattle.slow.specs.Replays.{call_said, unanswered}
@@ -37,12 +37,12 @@ latest (suc n) f = f n ∷ latest n f
 unfoldable pub past_of : Past → List Deed
 past_of past = latest past.count (deed_at past)
 
--- no more than there are places for
-abbrev pub Kept : Past → Type 0
-Kept past = past.count ≤ 256
+-- what a closure answers of a deed, by its clauses, is this test
+abbrev pub Tests : (Deed → Bool → Type 0) → (Deed → Bool) → Type 0
+Tests answers test = (d : Deed) (t : Bool) → answers d t → t ≡ test d
 
 -- what the call at a place of a list did, by the answer at that place
-abbrev pub deed_for : List Listed → List CallAnswer → ℕ → Deed
+abbrev pub deed_for : List call.Record → List CallAnswer → ℕ → Deed
 deed_for calls answers i =
     let a : CallAnswer = get_or answers i unanswered in
-    deed_by (fields_of (get_or calls i unlisted).content) (heard (call_said a.outcome)) a.made
+    deed_by (fields_of (call_at calls i)) (heard (call_said a.outcome)) a.made

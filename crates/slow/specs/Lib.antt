@@ -3,5 +3,6 @@
 pub mod Replays
 pub mod SoFar
 pub mod Kept
+pub mod Within
 pub mod Seen
 pub mod Parts

@@ -1,15 +1,16 @@
 -- What the slow engine promises: for every topology and list, the refusal; or of each call what the run from setup with
 -- full current answers, and the state after the last. Open are, as in every state, the unused places of its channels
 -- and how a marker is spelled in its place (model's specs/State.antt), and nothing else.
-use Rattle.std.specs.Prelude.{ℕ, ◌≤◌, ◌≡◌, List, map, get_or, length, replicate}
+use Rattle.std.specs.Prelude.{ℕ, ◌≤◌, ◌≡◌, List, map, get_or, length, replicate, Result, IsOkAnd}
 use Rattle.std.proofs.Math.Option.{Option, none, some}
 use Rattle.model.specs.declared.Topology.{Topology}
 use Rattle.model.specs.declared.Record.{Record}
+use Rattle.model.specs.declared.Refusal.{Refusal}
 use Rattle.slow.specs.declared.CallAnswer.{CallAnswer}
 use Rattle.model.specs.Notation.{tabulate}
 use Rattle.model.specs.Outcome.{Said, line, said_by, refusal_of}
 use Rattle.model.specs.Layout.{store_cells}
-use Rattle.model.specs.State.{view, blank_state}
+use Rattle.model.specs.State.{view}
 use Rattle.model.specs.Program.{full_budget}
 use Rattle.model.specs.ProgramsAreRuns.{call_with}
 use Rattle.model.specs.Run.{World, Reply, run, first_world}
@@ -47,25 +48,21 @@ all_told r = tabulate r.count (λ i. told_by (get_or r.answers i unanswered))
 abbrev pub answered : Reply → Told
 answered r = record { outcome = r.outcome; made = r.made }
 
--- refused, with this number: no answer, every place unused, and a state of no topology
-pub record Refuses (n : ℕ) (r : Replayed) : Type 0 where
-  pub refusal : refusal_of r.verdict ≡ some n
-  pub count : r.count ≡ 0
-  pub answers : r.answers ≡ replicate 256 unanswered
-  pub state : view r.state ≡ blank_state
+-- refused, with this number
+pub record Refuses (n : ℕ) (r : Result Replayed Refusal) : Type 0 where
+  pub refusal : refusal_of r ≡ some n
 
 -- or run
 pub record Runs (T : Topology) (calls : List Record) (r : Replayed) : Type 0 where
-  pub accepted : refusal_of r.verdict ≡ none
   pub count : r.count ≡ length calls
   pub answers : all_told r ≡ map answered (replies T calls)
   pub unused : (i : ℕ) → r.count ≤ i → get_or r.answers i unanswered ≡ unanswered
   pub state : view r.state ≡ (run T (start T) (map (call_with full_budget) calls)).state
 
 -- "18, the list is longer than 256, looked at first; then 1 to 5", and 19 (M-105)
-abbrev pub ReplaysBy : Option ℕ → Topology → List Record → Replayed → Type 0
+abbrev pub ReplaysBy : Option ℕ → Topology → List Record → Result Replayed Refusal → Type 0
 ReplaysBy (some n) T calls r = Refuses n r
-ReplaysBy none T calls r = Runs T calls r
+ReplaysBy none T calls r = IsOkAnd r (Runs T calls)
 
-pub record Replays (T : Topology) (calls : List Record) (r : Replayed) : Type 0 where
+pub record Replays (T : Topology) (calls : List Record) (r : Result Replayed Refusal) : Type 0 where
   pub replays : ReplaysBy (list_refusal T calls) T calls r

@@ -1,14 +1,14 @@
 // What the histories tell of a process and of a channel: its word, and the messages under way.
-ghost use Rattle.std.specs.Prelude.{◌≡◌, cond, ◌&&◌, [], ◌∷◌, ◌++◌, ◌<◌, ◌≤◌, ◌+◌, ◌-◌, length, leb, ltb};
+ghost use Rattle.std.specs.Prelude.{◌≡◌, cond, [], ◌∷◌, ◌++◌, ◌<◌, ◌≤◌, ◌+◌, ◌-◌, length};
 ghost use Rattle.model.specs.Channel.{entries, entry_of};
 ghost use Rattle.model.specs.Word as words;
 ghost use Rattle.model.specs.History.{receipts_of};
 ghost use Rattle.slow.specs.Kept.{deed_at};
-ghost use Rattle.slow.specs.Seen.{Whole, Here, history_seen, kind_of, MayFill, filled, held_by};
+ghost use Rattle.slow.specs.Seen.{Here, history_seen, kind_of, MayFill, filled, held_by};
 
-use crate::histories::Histories;
-use crate::past::Past;
-use crate::{feed, look, tests, told};
+use crate::deeds::Past;
+use crate::events::Histories;
+use crate::{feed, histories, look, tests, told};
 use model::{Channel, PLACES, Receipt, Topology};
 use rules::word::enter;
 
@@ -19,26 +19,26 @@ fn entered(word: u32, receive: bool, channel: u8, body: u32) -> u32
     if !receive {
         return word;
     }
-    let receipt = Receipt {
-        channel: channel as u32,
-        body,
-    };
-    enter(word, receipt)
+    enter(
+        word,
+        Receipt {
+            channel: channel as u32,
+            body,
+        },
+    )
 }
 
 // Process p's word: what the receives in its history make of 0.
+#[tactic(auto, unfolding(crate::specs::Seen::history_seen, model::specs::Notation::tabulate, model::specs::History::receipts_of, model::specs::Word::replay_by,))]
 pub fn word(past: Past, histories: Histories, p: u8) -> u32
-    requires { (p < 16) × Whole histories }
+    requires { p < 16 }
     ensures { result ≡ words.replay 0 (receipts_of ((history_seen (deed_at past) histories).events p)) }
 {
-    let count = histories.counts[p as usize];
     let mut word = 0;
-    let mut k: u16 = 0;
-    while k < count {
-        let i = feed::wide(histories.entries[256 * p as usize + k as usize]);
-        let d = past.deeds[i];
+    for k in 0..histories.counts[p as usize] {
+        let i = histories.entries[p as usize][k as usize];
+        let d = past.deeds[i as usize];
         word = entered(word, !tests::did(d, 1), d.channel, d.body);
-        k += 1;
     }
     word
 }
@@ -47,11 +47,12 @@ pub fn word(past: Past, histories: Histories, p: u8) -> u32
 fn kind(turned: bool, after: bool) -> u8
     ensures { result ≡ kind_of turned after }
 {
-    if turned == after { 0 } else { 1 }
+    (turned != after) as u8
 }
 
 // A channel with no entry.
-fn empty() -> Channel
+#[tactic(auto, unfolding(model::specs::Channel::entries, model::specs::Notation::tabulate))]
+pub fn empty() -> Channel
     ensures { entries result ≡ [] }
 {
     Channel {
@@ -62,6 +63,7 @@ fn empty() -> Channel
 }
 
 // One entry more, if it is one.
+#[tactic(auto, using(model::proofs::laws::ChannelLaws::entries_count, model::proofs::laws::ChannelLaws::extended))]
 fn push(mut c: Channel, yes: bool, kind: u8, body: u32) -> Channel
     requires { length (entries c) + cond yes 1 0 ≤ 8 }
     ensures { entries result ≡ entries c ++ cond yes (entry_of kind body ∷ []) [] }
@@ -73,13 +75,6 @@ fn push(mut c: Channel, yes: bool, kind: u8, body: u32) -> Channel
         c.count += 1;
     }
     c
-}
-
-// Whether n is from `from` to before `to`.
-fn within(from: u16, n: u16, to: u16) -> bool
-    ensures { result ≡ (leb from n && ltb n to) }
-{
-    look::both(from <= n, n < to)
 }
 
 // The sends on a channel in its sender's history, from one to before another, pushed onto it.
@@ -96,30 +91,18 @@ fn fill(
     requires { MayFill turned past histories p channel from to (entries first) }
     ensures { entries result ≡ filled turned past histories p channel from to (entries first) }
 {
-    let count = histories.counts[p as usize];
     let mark = histories.marks[p as usize];
     let mut c = first;
     let mut seen: u16 = 0;
-    let mut k: u16 = 0;
-    while k < count {
-        let i = feed::wide(histories.entries[256 * p as usize + k as usize]);
-        let d = past.deeds[i];
+    for k in 0..histories.counts[p as usize] {
+        let i = histories.entries[p as usize][k as usize];
+        let d = past.deeds[i as usize];
         let on = tests::on_channel(d, 1, channel);
-        let yes = look::both(on, within(from, seen, to));
-        c = push(c, yes, kind(turned, mark <= k), d.body);
+        let yes = on & ((from <= seen) & (seen < to));
+        c = push(c, yes, kind(turned, histories::is_after(mark, k)), d.body);
         seen = tests::and_one(seen, on);
-        k += 1;
     }
     c
-}
-
-fn minus(a: u16, b: u16) -> u16
-    ensures { result ≡ a - b }
-{
-    if a < b {
-        return 0;
-    }
-    a - b
 }
 
 // Where the marker goes in among the sends: before the last n of those under way, and where there is none at their end.
@@ -129,10 +112,11 @@ fn split(marker: bool, received: u16, total: u16, n: u16) -> u16
     if !marker {
         return total;
     }
-    received + minus(minus(total, received), n)
+    received + total.saturating_sub(received).saturating_sub(n)
 }
 
 // What is under way on a channel, and its marker before what was sent since.
+#[tactic(auto, unfolding(model::specs::Topology::sender, model::specs::Topology::receiver))]
 pub fn channel(
     topology: Topology,
     past: Past,
@@ -144,10 +128,8 @@ pub fn channel(
     requires { Here topology past histories turned marker c }
     ensures { entries result ≡ held_by topology past histories turned marker c }
 {
-    let from = topology.from;
-    let to = topology.to;
-    let p = look::channel_number(from, c);
-    let q = look::channel_number(to, c);
+    let p = look::at(&topology.from, c, 0);
+    let q = look::at(&topology.to, c, 0);
     let received = feed::number_on(past, histories, q, false, c, histories.counts[q as usize]);
     let total = feed::number_on(past, histories, p, true, c, histories.counts[p as usize]);
     let split = split(marker, received, total, told::behind(past, c));

@@ -1,72 +1,47 @@
-// The histories, fed what was done.
+// The histories, fed what was done. Topology, past and histories stay arguments of their own, as the second account's
+// `on_deed` and `sent_after_mark`, by which the contracts are said, take them.
 ghost use Rattle.std.specs.Prelude.{◌≡◌, true, ◌<◌, ◌≤◌, length};
 ghost use Rattle.std.proofs.Math.Option.{none};
 ghost use Rattle.model.specs.Topology.{sender, receiver, topology_refusal};
 ghost use Rattle.model.specs.History.{sent_after_mark};
 ghost use Rattle.account.specs.Deeds.{did};
 ghost use Rattle.account.specs.Contents.{on_receipt, on_deed};
-ghost use Rattle.slow.specs.Kept.{Kept, deed_at, past_of};
-ghost use Rattle.slow.specs.Seen.{Whole, MayFeed, history_seen, on_events, Follows, FedBy, AllFit};
+ghost use Rattle.slow.specs.Kept.{deed_at, past_of};
+ghost use Rattle.slow.specs.Seen.{MayFeed, history_seen, on_events, Follows, FedBy, AllFit};
 
-use crate::histories::Histories;
-use crate::past::Past;
+use crate::deeds::Past;
+use crate::events::Histories;
 use crate::{histories, look, tests};
 use model::Topology;
-
-// A deed's place, which is below 256, as an index.
-pub fn wide(x: u8) -> usize
-    ensures { (result ≡ x) × (result < 256) }
-{
-    x as usize
-}
 
 // How many of the first n events of process p's history are sends on a channel, or receives on it.
 pub fn number_on(past: Past, histories: Histories, p: u8, sends: bool, channel: u8, n: u16) -> u16
     requires { (p < 16) × (n ≤ 256) }
     ensures { (result ≡ length (on_events (deed_at past) histories p sends channel n)) × (result ≤ n) }
 {
-    let mut found: u16 = 0;
-    let mut k: u16 = 0;
-    while k < n {
-        let i = wide(histories.entries[256 * p as usize + k as usize]);
-        let d = past.deeds[i];
-        let direction = tests::did(d, 1) == sends;
-        found = tests::and_one(found, look::both(direction, channel == d.channel));
-        k += 1;
-    }
-    found
+    // A name for the entries, since no proof is made where a part of them is lent straight from the histories.
+    let entries = &histories.entries;
+    entries[p as usize][..n as usize]
+        .iter()
+        .map(|i| past.deeds[*i as usize])
+        .filter(|d| (tests::did(*d, 1) == sends) & (channel == d.channel))
+        .count() as u16
 }
 
 // Whether the next message to be received on a channel was sent after its sender's mark: the sends before the mark are
 // no more than were received.
 fn after_mark(topology: Topology, past: Past, histories: Histories, channel: u8) -> bool
-    requires { (sender topology channel < 16) × (receiver topology channel < 16) × Whole histories }
+    requires { (sender topology channel < 16) × (receiver topology channel < 16) }
     ensures { result ≡ sent_after_mark topology channel (history_seen (deed_at past) histories) }
 {
-    let from = topology.from;
-    let to = topology.to;
-    let p = look::channel_number(from, channel);
-    let q = look::channel_number(to, channel);
-    if !histories::marked(histories, p) {
+    let p = look::at(&topology.from, channel, 0);
+    let q = look::at(&topology.to, channel, 0);
+    let Some(mark) = look::at(&histories.marks, p, None) else {
         return false;
-    }
-    let before = number_on(
-        past,
-        histories,
-        p,
-        true,
-        channel,
-        histories.marks[p as usize],
-    );
-    let received = number_on(
-        past,
-        histories,
-        q,
-        false,
-        channel,
-        histories.counts[q as usize],
-    );
-    before <= received
+    };
+    let count = look::at(&histories.counts, q, 0);
+    number_on(past, histories, p, true, channel, mark)
+        <= number_on(past, histories, q, false, channel, count)
 }
 
 // A receive: of a marker, or of a body.
@@ -75,10 +50,9 @@ fn receive(topology: Topology, past: Past, histories: Histories, i: u8) -> Histo
     ensures { Follows past histories (on_receipt topology (deed_at past i)) result }
 {
     let d = past.deeds[i as usize];
-    let to = topology.to;
-    let p = look::channel_number(to, d.channel);
+    let p = look::at(&topology.to, d.channel, 0);
     let after = after_mark(topology, past, histories, d.channel);
-    let now = histories::mark_unmarked(histories, p, look::either(d.marker, after));
+    let now = histories::mark_unmarked(histories, p, d.marker | after);
     if d.marker {
         return now;
     }
@@ -91,10 +65,8 @@ fn deed(topology: Topology, past: Past, histories: Histories, i: u8) -> Historie
     ensures { Follows past histories (on_deed topology (deed_at past i)) result }
 {
     let d = past.deeds[i as usize];
-    let from = topology.from;
-    let kind = d.kind;
-    match kind {
-        1 => histories::add(histories, look::channel_number(from, d.channel), i),
+    match d.kind {
+        1 => histories::add(histories, look::at(&topology.from, d.channel, 0), i),
         2 => receive(topology, past, histories, i),
         5 => histories::mark(histories, d.process),
         7 => histories::commit(histories),
@@ -106,14 +78,12 @@ fn deed(topology: Topology, past: Past, histories: Histories, i: u8) -> Historie
 
 // The histories after what was done.
 pub fn feed(topology: Topology, past: Past) -> Histories
-    requires { Kept past × AllFit topology (past_of past) × (topology_refusal topology ≡ none) }
+    requires { AllFit topology (past_of past) × (topology_refusal topology ≡ none) }
     ensures { FedBy topology past result }
 {
     let mut now = histories::first();
-    let mut i: u16 = 0;
-    while i < past.count {
+    for i in 0..past.count {
         now = deed(topology, past, now, i as u8);
-        i += 1;
     }
     now
 }

@@ -1,10 +1,12 @@
 // The slow engine (document 02, M-106): it keeps the list of calls with their answers and nothing else, and each time
 // works out from that list where the head stands, and from there the next answer. No function of `engine` or `recovery`
 // is called, and no step: shared with them are the topology's check and the word rule (`rules::topology` and
-// `rules::word`), and nothing else.
+// `rules::word`), and nothing else, so that slow has its own of each leaf that it needs.
 #![tactic(auto)]
 
 mod contents;
+mod deeds;
+mod events;
 mod feed;
 mod histories;
 mod judge;
@@ -17,19 +19,15 @@ mod standing;
 mod tests;
 mod told;
 
-ghost use Rattle.std.specs.Prelude.{◌≡◌, ◌<◌, ◌≤◌, replicate};
+ghost use Rattle.std.specs.Prelude.{◌≡◌, ◌<◌, ◌≤◌, length, replicate};
 ghost use Rattle.std.proofs.Math.Option.{none};
-ghost use Rattle.model.specs.Outcome.{refusal_number};
+ghost use Rattle.model.specs.CallList.{call_at};
 ghost use Rattle.model.specs.Topology.{topology_refusal};
-ghost use Rattle.model.specs.State.{view, blank_state};
-ghost use Rattle.model.specs.CallList.{listed};
-ghost use Rattle.slow.specs.Replays.{unanswered, Refuses, Replays};
-ghost use Rattle.slow.specs.SoFar.{AnsweredSoFar, Says, world_at, reply_at, contents};
+ghost use Rattle.model.specs.State.{view};
+ghost use Rattle.slow.specs.Replays.{unanswered, Replays};
+ghost use Rattle.slow.specs.SoFar.{Answered, AnsweredSoFar, Says, world_at, reply_at};
 
-use model::{
-    CHANNELS, CallList, Counts, Flags, LISTED, Listed, Outcome, PLACES, PROCESSES, Phase, Places,
-    Refusal, Round, State, Topology, Verdict,
-};
+use model::{LISTED, Outcome, Record, Refusal, State, Topology};
 
 // What a call of a list is answered: a step's outcome, or the line of a recover, and how many writes it made.
 #[derive(Clone, Copy)]
@@ -44,11 +42,11 @@ pub struct CallAnswer {
     pub made: u32,
 }
 
-// The answer to each call, in the list's order, and the state after the last; or the refusal, no answer, and a state of
-// no topology. Places from count on are unused: Done, and 0 writes.
+// The answer to each call, in the list's order, and the state after the last. Places from count on are unused: Done,
+// and 0 writes.
 #[derive(Clone, Copy)]
 pub struct Replayed {
-    pub verdict: Verdict,
+    // no heap here, so the answers have room for the longest list, and a count
     pub answers: [CallAnswer; LISTED],
     pub count: u16,
     pub state: State,
@@ -64,118 +62,58 @@ fn no_answers() -> [CallAnswer; LISTED]
     [unused; LISTED]
 }
 
-// A state of no topology.
-fn blank() -> State
-    ensures { view result ≡ blank_state }
+// The state after the calls that have these answers: all of it worked out anew. (That the topology passes its checks is
+// asked here and below: it is model's type, of which `replay` takes any; and that they are few enough, of a slice.)
+#[tactic(auto, using(crate::proofs::AsRun::told_ready, crate::proofs::AsRun::told_state))]
+fn after(topology: Topology, calls: &[Record], answers: &[CallAnswer]) -> State
+    requires accepted { topology_refusal topology ≡ none }
+    requires few { length answers.now ≤ 256 }
+    requires listed { length answers.now ≤ length calls.now }
+    requires answered { Answered topology calls.now answers.now }
+    ensures { view result ≡ (world_at topology (call_at calls.now) (length answers.now)).state }
 {
-    let nothing = Places {
-        bodies: [0; PLACES],
-        kinds: [0; PLACES],
-    };
-    State {
-        topology: Topology {
-            processes: 0,
-            channels: 0,
-            from: [0; CHANNELS],
-            to: [0; CHANNELS],
-            late: 0,
-        },
-        round: Round {
-            line: 0,
-            phase: Phase::Idle,
-        },
-        words: [0; PROCESSES],
-        tags: [false; PROCESSES],
-        places: [nothing; CHANNELS],
-        lengths: [0; CHANNELS],
-        flags: Flags {
-            logical: [false; PROCESSES],
-            saved: [false; PROCESSES],
-            closed: [false; CHANNELS],
-            sent: [false; CHANNELS],
-        },
-        counts: Counts {
-            messages: [0; PROCESSES],
-            channels: [0; CHANNELS],
-        },
-    }
-}
-
-fn refused(refusal: Refusal) -> Replayed
-    ensures { Refuses (refusal_number refusal) result }
-{
-    let answers = no_answers();
-    let state = blank();
-    Replayed {
-        verdict: Verdict::Refuse(refusal),
-        answers,
-        count: 0,
-        state,
-    }
-}
-
-// The state after the first n calls, with these answers: all of it worked out anew.
-fn after(
-    topology: Topology,
-    calls: [Listed; LISTED],
-    answers: [CallAnswer; LISTED],
-    n: u16,
-) -> State
-    requires { (topology_refusal topology ≡ none) × (n ≤ 256) × AnsweredSoFar topology calls n answers }
-    ensures { view result ≡ (world_at topology (contents calls) n).state }
-{
-    let so_far = past::of(calls, answers, n);
-    standing::of(topology, so_far)
+    standing::of(topology, past::of(calls, answers))
 }
 
 // The next answer.
-fn next(
-    topology: Topology,
-    calls: [Listed; LISTED],
-    answers: [CallAnswer; LISTED],
-    i: u16,
-) -> CallAnswer
-    requires { (topology_refusal topology ≡ none) × (i < 256) × AnsweredSoFar topology calls i answers }
-    ensures { Says result (reply_at topology (contents calls) i) }
+fn next(topology: Topology, calls: &[Record], answers: &[CallAnswer]) -> CallAnswer
+    requires accepted { topology_refusal topology ≡ none }
+    requires few { length answers.now ≤ 256 }
+    requires listed { length answers.now < length calls.now }
+    requires answered { Answered topology calls.now answers.now }
+    ensures { Says result (reply_at topology (call_at calls.now) (length answers.now)) }
 {
-    let s = after(topology, calls, answers, i);
-    let listed = calls[i as usize];
-    let content = listed.content;
-    judge::answer(s, past::call(content))
+    let s = after(topology, calls, answers);
+    judge::answer(s, past::call(calls[answers.len()]))
 }
 
-// The answers to the first n calls.
-fn answers(topology: Topology, calls: [Listed; LISTED], n: u16) -> [CallAnswer; LISTED]
-    requires { (topology_refusal topology ≡ none) × (n ≤ 256) }
-    ensures { AnsweredSoFar topology calls n result }
+// The answers to all of them.
+fn answers(topology: Topology, calls: &[Record]) -> [CallAnswer; LISTED]
+    requires accepted { topology_refusal topology ≡ none }
+    requires few { length calls.now ≤ 256 }
+    ensures { AnsweredSoFar topology calls.now (length calls.now) result }
 {
     let mut told = no_answers();
-    let mut i: u16 = 0;
-    while i < n {
-        told[i as usize] = next(topology, calls, told, i);
-        i += 1;
+    for i in 0..calls.len() {
+        told[i] = next(topology, calls, &told[..i]);
     }
     told
 }
 
-// Of any topology and any list, whatever its count.
-pub fn replay(topology: Topology, list: CallList) -> Replayed
-    ensures { Replays topology (listed list) result }
+// Of any topology and any list, however long.
+#[tactic(auto, using(crate::proofs::Listing::too_long, crate::proofs::Listing::by_topology), unfolding(model::specs::Outcome::refusal_of))]
+pub fn replay(topology: Topology, list: &[Record]) -> Result<Replayed, Refusal>
+    ensures { Replays topology list.now result }
 {
-    let count = list.count;
-    if LISTED < count as usize {
-        return refused(Refusal::LongList);
+    if LISTED < list.len() {
+        return Err(Refusal::LongList);
     }
-    if let Verdict::Refuse(r) = rules::topology::check(topology) {
-        return refused(r);
-    }
-    let calls = list.calls;
-    let told = answers(topology, calls, count);
-    let state = after(topology, calls, told, count);
-    Replayed {
-        verdict: Verdict::Pass,
-        answers: told,
-        count,
+    rules::topology::check(topology)?;
+    let answers = answers(topology, list);
+    let state = after(topology, list, &answers[..list.len()]);
+    Ok(Replayed {
+        answers,
+        count: list.len() as u16,
         state,
-    }
+    })
 }

@@ -1,73 +1,31 @@
 // A place of an array of a state or topology, whatever the index: past the array it reads as one of a state that has
-// nothing. And two tests as one, with no branch for a loop's proof to follow.
-ghost use Rattle.std.specs.Prelude.{◌≡◌, false, ◌&&◌, ◌||◌, get_or};
+// nothing.
+ghost use Rattle.std.specs.Prelude.{◌≡◌, get_or};
 ghost use Rattle.model.specs.Notation.{bit_of};
 ghost use Rattle.model.specs.Channel.{entry_of};
 ghost use Rattle.model.specs.State.{entries_in};
 ghost use Rattle.account.specs.Judging.{first_of};
 
-use model::{CHANNELS, Entry, PROCESSES, Places};
+use model::{CHANNELS, Entry, PLACES, PROCESSES, Places};
 
-pub fn both(a: bool, b: bool) -> bool
-    ensures { result ≡ (a && b) }
+// The item at a place of a list, and past the list this blank.
+pub fn at<T: Copy>(items: &[T], i: u8, blank: T) -> T
+    ensures { result ≡ get_or items.now i blank }
 {
-    a && b
-}
-
-pub fn either(a: bool, b: bool) -> bool
-    ensures { result ≡ (a || b) }
-{
-    a || b
-}
-
-pub fn process_flag(flags: [bool; PROCESSES], p: u8) -> bool
-    ensures { result ≡ get_or flags p false }
-{
-    if PROCESSES <= p as usize {
-        return false;
-    }
-    flags[p as usize]
-}
-
-pub fn channel_flag(flags: [bool; CHANNELS], c: u8) -> bool
-    ensures { result ≡ get_or flags c false }
-{
-    if CHANNELS <= c as usize {
-        return false;
-    }
-    flags[c as usize]
-}
-
-pub fn process_number(numbers: [u8; PROCESSES], p: u8) -> u8
-    ensures { result ≡ get_or numbers p 0 }
-{
-    if PROCESSES <= p as usize {
-        return 0;
-    }
-    numbers[p as usize]
-}
-
-// Also for a topology's ends.
-pub fn channel_number(numbers: [u8; CHANNELS], c: u8) -> u8
-    ensures { result ≡ get_or numbers c 0 }
-{
-    if CHANNELS <= c as usize {
-        return 0;
-    }
-    numbers[c as usize]
+    items.get(i as usize).copied().unwrap_or(blank)
 }
 
 // Whether process p is late, by a topology's map.
+#[tactic(auto, unfolding(model::specs::Notation::bit_of))]
 pub fn late(map: u16, p: u8) -> bool
     ensures { result ≡ bit_of map p }
 {
-    if PROCESSES <= p as usize {
-        return false;
-    }
-    (map >> p) % 2 == 1
+    (p as usize) < PROCESSES && (map >> p) % 2 == 1
 }
 
-// What a kind and a body mean: kind 0 and 1 a message with that tag, any other kind a marker.
+// What a kind and a body mean: kind 0 and 1 a message with that tag, any other kind a marker. (As `rules::channel` has
+// it, for the reason of lib.rt; the kinds stay numbers, of which a state may hold any.)
+#[tactic(auto, unfolding(model::specs::Channel::entry_of))]
 fn entry(kind: u8, body: u32) -> Entry
     ensures { result ≡ entry_of kind body }
 {
@@ -82,14 +40,13 @@ fn entry(kind: u8, body: u32) -> Entry
 pub fn first(places: [Places; CHANNELS], lengths: [u8; CHANNELS], c: u8) -> Entry
     ensures { result ≡ first_of (entries_in places lengths c) }
 {
-    if channel_number(lengths, c) == 0 {
+    if at(&lengths, c, 0) == 0 {
         return entry(0, 0);
     }
-    if CHANNELS <= c as usize {
-        return entry(0, 0);
-    }
-    let found = places[c as usize];
-    let kinds = found.kinds;
-    let bodies = found.bodies;
-    entry(kinds[0], bodies[0])
+    let nothing = Places {
+        bodies: [0; PLACES],
+        kinds: [0; PLACES],
+    };
+    let held = at(&places, c, nothing);
+    entry(held.kinds[0], held.bodies[0])
 }

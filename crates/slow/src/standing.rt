@@ -1,143 +1,124 @@
-// The state that the past tells: of the processes, of the channels, and whole.
-ghost use Rattle.std.specs.Prelude.{◌≡◌};
-ghost use Rattle.model.specs.State.{view};
+// The state that the past tells: of the processes, of the channels, and whole. (`Ready`, which is required here and
+// there, relates a topology and a past, and is no fact of either.)
+ghost use Rattle.std.specs.Prelude.{◌≡◌, ◌<◌, ◌≤◌, ℕ, get_or};
+ghost use Rattle.model.specs.Channel.{entries, places_of};
+ghost use Rattle.model.specs.State.{view, view_progress, view_counts};
+ghost use Rattle.account.specs.Contents.{history_of, channel_by};
+ghost use Rattle.account.specs.Round.{turned};
 ghost use Rattle.account.specs.Standing.{state_of};
 ghost use Rattle.slow.specs.Kept.{past_of};
-ghost use Rattle.slow.specs.Parts.{Ready, ReadyWith, OfProcesses, OfChannels};
+ghost use Rattle.slow.specs.Seen.{FedBy};
+ghost use Rattle.slow.specs.Parts.{Ready};
 
-use crate::histories::Histories;
-use crate::look::both;
-use crate::past::Past;
+use crate::deeds::Past;
+use crate::events::Histories;
 use crate::{contents, feed, histories, round, told};
-use model::{CHANNELS, Counts, Flags, PLACES, PROCESSES, Places, Round, State, Topology};
+use model::{CHANNELS, Channel, Counts, Flags, PROCESSES, Places, Round, State, Topology};
 
-#[derive(Clone, Copy)]
-struct ProcessParts {
-    words: [u32; PROCESSES],
-    tags: [bool; PROCESSES],
-    logical: [bool; PROCESSES],
-    saved: [bool; PROCESSES],
-    messages: [u8; PROCESSES],
-}
-
-#[derive(Clone, Copy)]
-struct ChannelParts {
-    places: [Places; CHANNELS],
-    lengths: [u8; CHANNELS],
-    closed: [bool; CHANNELS],
-    sent: [bool; CHANNELS],
-    entries: [u8; CHANNELS],
-}
-
-// Of each process its word, its tag, whether it has a mark and, being late, a copy, and how many entries its log has.
-fn processes(topology: Topology, past: Past, histories: Histories) -> ProcessParts
-    requires { ReadyWith topology past histories }
-    ensures { OfProcesses topology past result }
+// The cells with what f tells of each of the first n in them.
+fn table<T: Copy, const N: usize, F: Fn(u8) -> T>(mut cells: [T; N], n: u8, f: F) -> [T; N]
+    requires room { n ≤ N }
+    requires may { (i : ℕ) → i < n → F.pre f i }
+    ensures told { (z : T) (i : ℕ) → i < n → F.post f i (get_or result i z) }
+    ensures other { (z : T) (i : ℕ) → n ≤ i → get_or result i z ≡ get_or cells i z }
 {
-    let n = topology.processes;
-    let turned = round::turned(past);
-    let mut words = [0; PROCESSES];
-    let mut tags = [false; PROCESSES];
-    let mut logical = [false; PROCESSES];
-    let mut saved = [false; PROCESSES];
-    let mut messages = [0; PROCESSES];
-    let mut p: u8 = 0;
-    while p < n {
-        let marked = histories::marked(histories, p);
-        words[p as usize] = contents::word(past, histories, p);
-        tags[p as usize] = turned != marked;
-        logical[p as usize] = marked;
-        saved[p as usize] = told::saved(topology, past, p);
-        messages[p as usize] = told::messages(topology, past, p) as u8;
-        p += 1;
+    for i in 0..n {
+        cells[i as usize] = f(i);
     }
-    ProcessParts {
-        words,
-        tags,
+    cells
+}
+
+// What is under way on channel c, with its marker: t is the tag of processes without a mark.
+#[tactic(auto, using(crate::proofs::Feeding::ends_fit, crate::proofs::Standings::channel_is))]
+fn held(topology: Topology, past: Past, histories: Histories, t: bool, c: u8) -> Channel
+    requires ready { Ready topology past }
+    requires fed { FedBy topology past histories }
+    requires tag { t ≡ turned (past_of past) }
+    requires planned { c < topology.channels }
+    ensures { entries result ≡ channel_by topology (past_of past) (history_of topology (past_of past)) c }
+{
+    let marker = told::marker_sent(past, c) & !told::closed(past, c);
+    contents::channel(topology, past, histories, t, marker, c)
+}
+
+fn places(held: Channel) -> Places
+    ensures { result ≡ places_of held }
+{
+    let (bodies, kinds) = (held.bodies, held.kinds);
+    Places { bodies, kinds }
+}
+
+// Who has a mark and, being late, a copy; which channels are closed, and on which the marker was sent.
+#[tactic(auto, using(model::proofs::laws::TopologyLaws::accepted_sizes))]
+fn flags(topology: Topology, past: Past, histories: Histories) -> Flags
+    requires ready { Ready topology past }
+    requires fed { FedBy topology past histories }
+    ensures { view_progress result ≡ (state_of topology (past_of past)).progress }
+{
+    let (n, m) = (topology.processes, topology.channels);
+    let logical = table([false; PROCESSES], n, |p| histories::marked(histories, p));
+    let saved = table([false; PROCESSES], n, |p| told::saved(topology, past, p));
+    let closed = table([false; CHANNELS], m, |c| told::closed(past, c));
+    let sent = table([false; CHANNELS], m, |c| told::marker_sent(past, c));
+    Flags {
         logical,
         saved,
-        messages,
-    }
-}
-
-// Of each channel its entries, whether it is closed and its marker was sent, and how many entries its log has.
-fn channels(topology: Topology, past: Past, histories: Histories) -> ChannelParts
-    requires { ReadyWith topology past histories }
-    ensures { OfChannels topology past result }
-{
-    let n = topology.channels;
-    let turned = round::turned(past);
-    let nothing = Places {
-        bodies: [0; PLACES],
-        kinds: [0; PLACES],
-    };
-    let mut places = [nothing; CHANNELS];
-    let mut lengths = [0; CHANNELS];
-    let mut closed = [false; CHANNELS];
-    let mut sent = [false; CHANNELS];
-    let mut entries = [0; CHANNELS];
-    let mut c: u8 = 0;
-    while c < n {
-        let shut = told::closed(past, c);
-        let marker_sent = told::marker_sent(past, c);
-        let holds = both(marker_sent, !shut);
-        let held = contents::channel(topology, past, histories, turned, holds, c);
-        let bodies = held.bodies;
-        let kinds = held.kinds;
-        places[c as usize] = Places { bodies, kinds };
-        lengths[c as usize] = held.count;
-        closed[c as usize] = shut;
-        sent[c as usize] = marker_sent;
-        entries[c as usize] = told::logged(past, c) as u8;
-        c += 1;
-    }
-    ChannelParts {
-        places,
-        lengths,
         closed,
         sent,
-        entries,
     }
 }
 
-// All of it.
+// How many entries each log has.
+#[tactic(auto, using(model::proofs::laws::TopologyLaws::accepted_sizes))]
+fn counts(topology: Topology, past: Past) -> Counts
+    requires { Ready topology past }
+    ensures { view_counts result ≡ (state_of topology (past_of past)).counts }
+{
+    let (n, m) = (topology.processes, topology.channels);
+    let messages = table(
+        [0; PROCESSES],
+        n,
+        |p| told::messages(topology, past, p) as u8,
+    );
+    let channels = table([0; CHANNELS], m, |c| told::logged(past, c) as u8);
+    Counts { messages, channels }
+}
+
+// All of it: also each process's word and its tag, and each channel's entries.
+#[tactic(auto, using(model::proofs::laws::TopologyLaws::accepted_sizes))]
 pub fn of(topology: Topology, past: Past) -> State
     requires { Ready topology past }
     ensures { view result ≡ state_of topology (past_of past) }
 {
-    let line = round::line(past) as u32;
-    let phase = round::phase(topology, past);
+    // Each table has a name, since no proof is made where a field is given a call's array straight.
     let histories = feed::feed(topology, past);
-    let p = processes(topology, past, histories);
-    let c = channels(topology, past, histories);
-    let words = p.words;
-    let tags = p.tags;
-    let logical = p.logical;
-    let saved = p.saved;
-    let messages = p.messages;
-    let places = c.places;
-    let lengths = c.lengths;
-    let closed = c.closed;
-    let sent = c.sent;
-    let entries = c.entries;
-    let flags = Flags {
-        logical,
-        saved,
-        closed,
-        sent,
-    };
-    let counts = Counts {
-        messages,
-        channels: entries,
-    };
+    let turned = round::turned(past);
+    let (n, m) = (topology.processes, topology.channels);
+    let words = table([0; PROCESSES], n, |p| contents::word(past, histories, p));
+    let tags = table(
+        [false; PROCESSES],
+        n,
+        |p| turned != histories::marked(histories, p),
+    );
+    let nothing = contents::empty();
+    let held = table(
+        [nothing; CHANNELS],
+        m,
+        |c| held(topology, past, histories, turned, c),
+    );
+    let places = table([places(nothing); CHANNELS], m, |c| places(held[c as usize]));
+    let lengths = table([0; CHANNELS], m, |c| held[c as usize].count);
     State {
         topology,
-        round: Round { line, phase },
+        round: Round {
+            line: round::line(past) as u32,
+            phase: round::phase(topology, past),
+        },
         words,
         tags,
         places,
         lengths,
-        flags,
-        counts,
+        flags: flags(topology, past, histories),
+        counts: counts(topology, past),
     }
 }
