@@ -1,22 +1,16 @@
 -- Laws of questions 2 and 3: each way that the carrying of a store ends.
-use Prim.Native.Nat.{ℕ}
-use mathlib.Core.Path.{◌≡◌}
-use mathlib.Core.Bool.{true, false}
-use mathlib.Core.List.{List}
+use Rattle.std.proofs.Common.{◌≡◌, ℕ, true, false, List, drop}
+use Rattle.std.specs.Prelude.{Result}
 use mathlib.Core.Option.{none, some}
-use lib.ListN.{drop}
 use Rattle.model.specs.declared.Topology.{Topology}
-use Rattle.model.specs.declared.Verdict.{Verdict}
+use Rattle.model.specs.declared.Refusal.{Refusal}
 use Rattle.model.specs.Form.{Form}
 use Rattle.model.specs.Outcome.{refusal_of}
 use Rattle.model.specs.Program.{plan_of, plan_length, plan_refusal}
 use Rattle.migration.specs.Carry.{carry}
 use Rattle.migration.specs.Carries.{Carries}
-use Rattle.operator.specs.declared.carry.Ending.{Ending}
 use Rattle.operator.specs.ConsoleAnswer.{plan_refused, refused}
 use Rattle.operator.specs.Carrying.{cells_in, are_cells, carried_answer, cells_answer, source_answer, carrying}
-use Rattle.operator.specs.Carrying.{ending_in}
-use Rattle.operator.specs.Printing.{PrintsAnswer}
 
 module _ (F G : Form) (bytes target : List ℕ) where
   pub ends_plan : {n : ℕ} → plan_refusal bytes ≡ some n → plan_refused n ≡ carrying F G bytes target
@@ -30,14 +24,8 @@ module _ (F G : Form) (bytes target : List ℕ) where
     unfolding carrying source_answer cells_answer
     ends_broken e = rw (passes, ← after-plan, e)
 
-    pub ends_carried : {T : Topology} {source after : List ℕ} {r : Verdict} → are_cells rest ≡ true → T ≡ plan_of bytes
-        → source ≡ cells_in rest → Carries (carry F G T source target) r after
+    pub ends_carried : {T : Topology} {source after : List ℕ} {r : Result (Unit {0}) Refusal} → are_cells rest ≡ true
+        → T ≡ plan_of bytes → source ≡ cells_in rest → Carries (carry F G T source target) r after
         → carried_answer (refusal_of r) after ≡ carrying F G bytes target
     unfolding carrying source_answer cells_answer
     ends_carried e p s c = rw (passes, ← after-plan, e, ← p, ← s, ← c.verdict, ← c.target)
-
--- what is printed of an ending is the answer's text
-pub ends_shown : (F G : Form) (bytes last : List ℕ) (e : Ending) {start filled before after : List ℕ} {n : ℕ}
-    → filled ≡ start → ending_in e last ≡ carrying F G bytes filled → PrintsAnswer (ending_in e last) before after n
-    → PrintsAnswer (carrying F G bytes start) before after n
-ends_shown F G bytes last e s c a = rw (← s, ← c) a

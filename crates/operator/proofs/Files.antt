@@ -1,22 +1,22 @@
 -- Laws of the file that `converter` writes: a cell's bytes, and each way that the carrying of a store ends.
-use Prim.Native.Nat.{ℕ, ◌*◌, ◌≤◌}
-use mathlib.Core.Path.{◌≡◌, ap, subst}
-use mathlib.Core.List.{List}
-use lib.ListN.{length, replicate}
-use native.Mathlib.Omega.{arith}
+use Rattle.std.proofs.Common.{◌≡◌, ℕ, ◌*◌, ◌≤◌, List, [], length, take, replicate, sym, ap, ◌∙◌, subst, arith}
+use Rattle.std.proofs.lemmas.List.{length-take-le, get_or-take}
+use Rattle.std.specs.Prelude.{Some, Result, Ok, Err}
+use Rattle.operator.specs.declared.refused.Refused.{Refused}
 use Rattle.model.specs.Form as form
-use Rattle.model.specs.Layout.{store_cells}
+use Rattle.model.specs.Layout.{store_cells, cell}
 use Rattle.model.specs.Record.{body_bytes}
-use Rattle.report.specs.Appends.{Appends, WholeText}
+use Rattle.model.proofs.laws.Lists.{concat_cong}
+use Rattle.report.specs.Appends.{Appends}
 use Rattle.report.proofs.Appending.{at_most}
-use Rattle.operator.specs.declared.Question.{Question}
 use Rattle.operator.specs.declared.Question.TheVariants.{Carry}
 use Rattle.operator.specs.declared.carry.Way.{Way}
 use Rattle.operator.specs.declared.carry.Way.TheVariants.{Upgrade, Downgrade}
-use Rattle.operator.specs.declared.carry.Ending.{Ending}
-use Rattle.operator.specs.Carrying.{source_form, target_form, carrying, ending_in}
-use Rattle.operator.specs.Console.{asked_in, taken_in}
-use Rattle.operator.specs.File.{cells_bytes, file_text, file_to, file, file_bytes}
+use Rattle.operator.specs.Carrying.{source_form, target_form, carrying}
+use Rattle.operator.specs.ConsoleAnswer.{ConsoleAnswer}
+use Rattle.operator.specs.ConsoleText.{answer_text}
+use Rattle.operator.specs.File.{cells_bytes, file_to, FilesStore, Files}
+use Rattle.operator.proofs.Lines.{line_alone}
 
 module _ {b a : List ℕ} {at r : ℕ} where
   pub cell_written : {xs : List ℕ} (v : ℕ) → xs ≡ body_bytes v → Appends (length xs) b at xs a r
@@ -29,22 +29,33 @@ pub cells_few : (w : Way) → form.store_cells (target_form w) ≤ store_cells
 cells_few Upgrade = omega arith
 cells_few Downgrade = omega arith
 
-module _ {b a : List ℕ} {r : ℕ} where
-  -- what is printed of an ending
-  pub ends_filed : (w : Way) (bytes last : List ℕ) (e : Ending)
-      → ending_in e last ≡ carrying (source_form w) (target_form w) bytes (replicate store_cells 0)
-      → Appends file_bytes b 0 (file_text (target_form w) (ending_in e last)) a r
-      → Appends file_bytes b 0 (file_to (Carry w) bytes) a r
-  unfolding file_to
-  ends_filed w bytes last e c t = rw (← c) t
+-- what is printed of a carrying
+pub file_of : (w : Way) (bytes : List ℕ) {x : ConsoleAnswer}
+    → x ≡ carrying (source_form w) (target_form w) bytes (replicate store_cells 0)
+    → answer_text (cells_bytes (form.store_cells (target_form w))) x [] ≡ file_to (Some (Carry w)) bytes
+unfolding file_to
+file_of w bytes e = rw e
 
-  pub all_cells : (w : Way) (last : List ℕ) {at count : ℕ} → count ≡ form.store_cells (target_form w)
-      → Appends (count * 4) b at (cells_bytes count last) a r
-      → Appends (store_cells * 4) b at (cells_bytes (form.store_cells (target_form w)) last) a r
-  all_cells w last e t = rw (← e) (at_most t (omega (arith, e, cells_few w)))
+-- the first n cells are written of the first n as of all
+cells_taken : (n : ℕ) (store : List ℕ) → cells_bytes n (take n store) ≡ cells_bytes n store
+unfolding cells_bytes cell
+cells_taken n store =
+    concat_cong n (λ i. body_bytes (cell (take n store) i)) (λ i. body_bytes (cell store i))
+    (λ i l. ap body_bytes (get_or-take n store i 0 l))
 
-  -- where the buffer is long enough, it holds the whole file
-  pub filed : (input : List ℕ) {bytes : List ℕ} {x : Question} → bytes ≡ taken_in input → x ≡ asked_in input
-      → WholeText (file_to x bytes) b a r → WholeText (file input) b a r
-  unfolding file
-  filed input e q t = rw (← e, ← q) t
+-- all cells of the target's form, as many as were asked for
+pub all_cells : (w : Way) (last : List ℕ) {count at r : ℕ} {b a : List ℕ} → count ≡ form.store_cells (target_form w)
+    → count ≤ length last
+    → Appends (length (take count last) * 4) b at (cells_bytes (length (take count last)) (take count last)) a r
+    → Appends (store_cells * 4) b at (cells_bytes (form.store_cells (target_form w)) last) a r
+all_cells w last {count} {at} {r} {b} {a} e l t =
+    let size : length (take count last) ≡ count = length-take-le count last l in
+    let whole : Appends (count * 4) b at (cells_bytes count last) a r =
+    rw (← cells_taken count last) (rw size at t) in
+    rw (← e) (at_most whole (omega (arith, e, cells_few w)))
+
+-- so a store that is carried or not is filed so, where that is asked
+pub store_filed : (w : Way) (bytes b a : List ℕ) (r : Result ℕ Refused) → FilesStore w bytes b a r
+    → Files (file_to (Some (Carry w)) bytes) b a r
+store_filed w bytes b a (Ok n) p = p
+store_filed w bytes b a (Err r) (same, e) = (same, sym (file_of w bytes e) ∙ line_alone r _)

@@ -1,5 +1,6 @@
 -- Laws that the proofs of several functions cite, and last the theorems.
 pub mod Asking
+pub mod Planning
 pub mod Lines
 pub mod Listing
 pub mod Printed

@@ -1,56 +1,28 @@
--- Laws of an answer that has no part: a line alone; and the line of an ending, with what is shown of the target.
-use Prim.Native.Nat.{ℕ, ◌+◌}
-use mathlib.Core.Path.{◌≡◌, refl}
-use mathlib.Core.List.{List, []}
-use native.Mathlib.Omega.{arith}
-use Rattle.model.specs.declared.Refusal.{Refusal}
+-- Laws of an answer that has no part: a refusal's line alone; and `done`, with what is shown of the target.
+use Rattle.std.proofs.Common.{◌≡◌, ℕ, ◌+◌, List, [], refl, arith}
 use Rattle.report.specs.Appends.{Appends}
-use Rattle.report.specs.Hex.{refused_text}
-use Rattle.report.specs.Text.{plan_refused_text}
-use Rattle.report.specs.TextBytes.{plan_refused_bytes, refused_bytes}
-use Rattle.report.proofs.Appending.{of_length, at_most, ◌then◌}
-use Rattle.operator.specs.declared.carry.Ending.{Ending}
-use Rattle.operator.specs.declared.carry.Ending.TheVariants.{PlanRefused, Refused, Done}
-use Rattle.operator.specs.Carrying.{ending_in}
-use Rattle.operator.specs.ConsoleAnswer.{plan_refused, refused, PartIn}
-use Rattle.operator.specs.ConsoleText.{answer_text, line_of, console_text, console_bytes, done_bytes}
+use Rattle.report.specs.TextBytes.{plan_refused_bytes}
+use Rattle.report.proofs.Appending.{at_most, ◌then◌}
+use Rattle.operator.specs.declared.refused.Refused.{Refused}
+use Rattle.operator.specs.declared.refused.Refused.TheVariants.{Plan, Other}
+use Rattle.operator.specs.ConsoleAnswer.{carried, refused_in}
+use Rattle.operator.specs.ConsoleText.{answer_text, line_of, done_bytes, done_text}
 use Rattle.operator.specs.Printing.{PrintsAnswer}
 
-module _ {before after : List ℕ} {r : ℕ} where
-  pub plan_line : {n : ℕ} → Appends plan_refused_bytes before 0 (plan_refused_text n) after r
-      → PrintsAnswer (plan_refused n) before after r
-  unfolding answer_text
-  plan_line t = record { part = []; allowed = refl; text = at_most t (omega arith) }
+pub refusal_told : (x : Refused) {before after : List ℕ} {r : ℕ}
+    → Appends plan_refused_bytes before 0 (line_of (refused_in x)) after r → PrintsAnswer (refused_in x) before after r
+unfolding answer_text
+refusal_told (Plan n) t = record { part = []; allowed = refl; text = at_most t (omega arith) }
+refusal_told (Other n) t = record { part = []; allowed = refl; text = at_most t (omega arith) }
 
-  pub line : {n : ℕ} → Appends refused_bytes before 0 (refused_text n) after r → PrintsAnswer (refused n) before after r
-  unfolding answer_text
-  line t = record { part = []; allowed = refl; text = at_most t (omega arith) }
+-- it is the whole answer, however a target would be shown
+pub line_alone : (x : Refused) (shown : List ℕ → List ℕ) → answer_text shown (refused_in x) [] ≡ line_of (refused_in x)
+unfolding answer_text
+line_alone (Plan n) shown = refl
+line_alone (Other n) shown = refl
 
--- of the line that tells an ending, a refusal's is all, and a target comes after `done`
-module _ (shown : List ℕ → List ℕ) (last : List ℕ) {e : Ending} {before middle : List ℕ} {at : ℕ}
-    (told : Appends plan_refused_bytes before 0 (line_of (ending_in e [])) middle at) where
-  pub plan_told : {n : Refusal} → e ≡ PlanRefused n
-      → Appends plan_refused_bytes before 0 (answer_text shown (ending_in e last) []) middle at
-  unfolding answer_text
-  plan_told same = rw same (rw same at told)
-
-  pub refusal_told : {n : Refusal} → e ≡ Refused n
-      → Appends plan_refused_bytes before 0 (answer_text shown (ending_in e last) []) middle at
-  unfolding answer_text
-  refusal_told same = rw same (rw same at told)
-
-  pub target_told : {most : ℕ} {after : List ℕ} {r : ℕ} → e ≡ Done → Appends most middle at (shown last) after r
-      → Appends (done_bytes + most) before 0 (answer_text shown (ending_in e last) []) after r
-  unfolding answer_text
-  target_told same t = rw same (of_length (rw same at told) (omega arith) then t)
-
--- no ending has a part
-pub printed : (e : Ending) (last : List ℕ) {before after : List ℕ} {r : ℕ}
-    → Appends console_bytes before 0 (console_text (ending_in e last) []) after r
-    → PrintsAnswer (ending_in e last) before after r
-printed e last t = record { part = []; allowed = none e; text = t }
-  where
-    none : (e : Ending) → PartIn (ending_in e last) []
-    none (PlanRefused n) = refl
-    none (Refused n) = refl
-    none Done = refl
+pub target_told : (shown : List ℕ → List ℕ) (last : List ℕ) {before middle after : List ℕ} {most at r : ℕ}
+    → Appends done_bytes before 0 done_text middle at → Appends most middle at (shown last) after r
+    → Appends (done_bytes + most) before 0 (answer_text shown (carried last) []) after r
+unfolding answer_text
+target_told shown last done cells = done then cells

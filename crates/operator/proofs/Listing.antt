@@ -1,41 +1,31 @@
--- Laws of the list that bytes hold: a list with one more call; the reading ends with the bytes, breaks off, or goes on
--- after a call; and what is listed meanwhile.
-use Prim.Native.Nat.{ℕ, ◌+◌, ◌*◌, ◌≤◌, ◌<◌}
-use mathlib.Core.Path.{◌≡◌, refl, sym, ap, ◌∙◌}
-use mathlib.Core.Bool.{Bool, true, false}
-use mathlib.Core.List.{List, [], ◌∷◌, ◌++◌, append_assoc, append-nil}
+-- Laws of the list that bytes hold: the reading ends with the bytes, breaks off, or goes on after a call; and what is
+-- listed meanwhile.
+use Rattle.std.proofs.Common.{◌≡◌, ℕ, ◌+◌, ◌≤◌, ◌<◌, Bool, true, false, List, [], ◌∷◌, ◌++◌, length, take, leb}
+use Rattle.std.proofs.Common.{◌==◌, refl}
+use Rattle.std.proofs.Common.{sym, ap, ◌∙◌, append_assoc, append-nil, arith, length-take}
+use Rattle.std.proofs.lemmas.Bool.Decides.{nat_tests}
+use Rattle.std.proofs.lemmas.List.{take_all, take-append-le}
+use Rattle.std.specs.Prelude.{Result, Ok, Err}
 use mathlib.Core.Option.{none, some}
-use lib.ListN.{length, set, length-append}
-use native.Mathlib.Omega.{arith}
+use borrow.Author.Tests.{leb-true, leb-false}
+use Rattle.model.proofs.laws.Tests.{Tested, test, holds, fails}
 use Rattle.model.specs.declared.Record.{Record}
-use Rattle.model.specs.declared.Listed.{Listed}
-use Rattle.model.specs.declared.CallList.{CallList}
-use Rattle.model.specs.Notation.{upd, tabulate}
-use Rattle.model.specs.Record.{AreBytes, and_then, read_record}
+use Rattle.model.specs.declared.Refusal.{Refusal}
+use Rattle.model.specs.Outcome.{refusal_number, refusal_of}
+use Rattle.model.specs.Record.{AreBytes, and_then, Reading, read_record}
 use Rattle.model.specs.Program.{Request, full, full_budget, Readings, read_budget, read_request, reading_then, read_all}
-use Rattle.model.specs.CallList.{list_limit, unlisted, call_at, listed}
-use Rattle.model.proofs.laws.Functions.{seen_set, upd_same, upd_other}
-use Rattle.model.proofs.laws.Lists.{tabulate_cong, tabulate_more}
+use Rattle.model.specs.CallList.{list_limit}
 use Rattle.model.proofs.Readings.{After, request_after, fewer, bytes_after, fuel}
-use Rattle.operator.specs.Lists.{read_calls, calls_in, broken_off, Adds, ReadsList}
+use Rattle.record.specs.RecordRead.{refuses, record_in}
+use Rattle.operator.specs.declared.list.ListRead.{ListRead}
+use Rattle.operator.specs.Lists.{read_calls, calls_in, broken_off, held, end_refusal, ReadsList}
 
--- a call written past the last one
-pub one_more : (list : CallList) (content : Record) → list.count < length list.calls
-    → listed (record {
-      calls = set list.calls list.count (record { content = content });
-      count = list.count + 1;
-    })
-    ≡ listed list ++ (content ∷ [])
-unfolding listed
-one_more list content l =
-    let n : ℕ = list.count in
-    rw (seen_set (λ (x : Listed). x.content) list.calls n (record { content = content }) unlisted l)
-    (tabulate_more n (upd (call_at list) n content)
-    ∙ rw (
-      upd_same (call_at list) n content,
-      tabulate_cong n (upd (call_at list) n content) (call_at list)
-          (λ i k. upd_other (call_at list) n i content (λ e. omega arith)),
-    ))
+-- what a test of a slice's length says
+pub is_empty : {A : Type 0} (xs : List A) → true ≡ (length xs == 0) → length xs ≤ 0
+is_empty xs e = grind (arith, nat_tests)
+
+pub not_empty : {A : Type 0} (xs : List A) → false ≡ (length xs == 0) → 0 < length xs
+not_empty xs e = grind (arith, nat_tests)
 
 -- a request of `head`'s is a record with full current
 abbrev request : Record → Request
@@ -80,63 +70,97 @@ more (b ∷ bytes) h r after e =
       fuel full (length bytes) (length after) after (bytes_after a h) (omega (arith, fewer a)) (omega arith),
     )
 
+-- what breaks off is refused with 7
+pub broken_number : (x : Reading Record) {n : ℕ} → record_in x ≡ refuses n → n ≡ 7
+unfolding record_in
+broken_number none e = cc
+broken_number (some r) e = cc
+
+-- the first n of the first n of some and of others are the first n of both
+take_both : (n : ℕ) (xs ys : List Record) → take n (take n xs ++ ys) ≡ take n (xs ++ ys)
+take_both n xs ys = go (test (leb (length xs) n))
+  where
+    go : Tested (leb (length xs) n) → take n (take n xs ++ ys) ≡ take n (xs ++ ys)
+    go (holds t) = rw (take_all n xs (leb-true _ _ t))
+    go (fails t) =
+        let long : n < length xs = leb-false (length xs) n t in
+        take-append-le n (take n xs) ys (rw length-take (omega arith))
+        ∙ (take_all n (take n xs) (rw length-take (omega arith)) ∙ sym (take-append-le n xs ys (omega arith)))
+
+-- how a reading ends: with 7, or with all of the bytes
+pub breaks_off : (broken : Bool) {end : Result (Unit {0}) Refusal} (r : Refusal) → end ≡ Err r
+    → refusal_of end ≡ end_refusal broken → (refusal_number r ≡ 7) × (broken ≡ true)
+unfolding refusal_of
+breaks_off true r e p = let same = rw e at p in (cc, refl)
+breaks_off false r e p = absurd (let same = rw e at p in let z : ◌≡◌ {A = ℕ} 0 1 = cc in omega arith)
+
+pub goes_on : (broken : Bool) {end : Result (Unit {0}) Refusal} {x : Unit {0}} → end ≡ Ok x
+    → refusal_of end ≡ end_refusal broken → broken ≡ false
+unfolding refusal_of
+goes_on false e p = refl
+goes_on true e p = absurd (let same = rw e at p in let z : ◌≡◌ {A = ℕ} 0 1 = cc in omega arith)
+
 -- while the bytes are read: what is done, and what is left
-pub record Listing (all : List ℕ) (list : CallList) (left : List ℕ) : Type 0 where
+pub record Listing (all : List ℕ) (list : ListRead) (left : List ℕ) : Type 0 where
   pub done : List Record
   pub split : calls_in all ≡ done ++ calls_in left
   pub broken : broken_off all ≡ broken_off left
-  pub count : list.count ≡ length done
-  pub calls : length done ≤ list_limit → listed list ≡ done
+  pub within : list.count ≤ list_limit + 1
+  pub calls : held list ≡ take (list_limit + 1) done
+  pub end : list.end ≡ Ok tt
   pub bytes : AreBytes left
-  pub fewer : 2 * list.count + length left ≤ length all
 
-pub list_starts : {bytes : List ℕ} {calls : List Listed} → AreBytes bytes
-    → Listing bytes (record { calls = calls; count = 0 }) bytes
-unfolding listed tabulate
+pub list_starts : {bytes : List ℕ} {calls : List Record} → AreBytes bytes
+    → Listing bytes (record { calls = calls; count = 0; end = Ok tt }) bytes
 list_starts h =
     record {
       done = [];
       split = refl;
       broken = refl;
-      count = refl;
-      calls = λ l. refl;
+      within = omega arith;
+      calls = refl;
+      end = refl;
       bytes = h;
-      fewer = omega arith;
     }
 
-module _ {all : List ℕ} {list : CallList} {left : List ℕ} (p : Listing all list left) where
+module _ {all : List ℕ} {list : ListRead} {left : List ℕ} (p : Listing all list left) where
   -- with nothing more to read, the list is whole
-  whole : (b : Bool) → read_calls left ≡ record { requests = []; broken = b }
-      → ReadsList all (record { list = list; broken = b })
-  whole b e =
+  whole : (b : Bool) → read_calls left ≡ record { requests = []; broken = b } → (end : Result (Unit {0}) Refusal)
+      → refusal_of end ≡ end_refusal b → ReadsList all (record { calls = list.calls; count = list.count; end = end })
+  whole b e end r =
       let listing : calls_in all ≡ p.done = p.split ∙ rw e (append-nil p.done) in
+      let off : broken_off all ≡ b = p.broken ∙ ap (λ (r : Readings). r.broken) e in
+      record { end = rw off r; within = p.within; calls = rw listing p.calls }
+
+  pub list_ends : length left ≤ 0 → ReadsList all list
+  unfolding refusal_of
+  list_ends l =
+      let read = whole false (ended left l) (Ok tt) refl in
+      record { end = rw p.end read.end; within = read.within; calls = read.calls }
+
+  pub list_breaks : 0 < length left → {r : Refusal} → record_in (read_record left) ≡ refuses (refusal_number r)
+      → read_record left ≡ none
+      → ReadsList all (record { calls = list.calls; count = list.count; end = Err r })
+  unfolding refusal_of
+  list_breaks l {r} said none_read =
+      whole true (broken left l none_read) (Err r) (ap some (broken_number (read_record left) said))
+
+  pub list_goes_on : {r : ListRead} (call : Record) (after : List ℕ) → read_record left ≡ some (call, after)
+      → held r ≡ take (list_limit + 1) (held list ++ (call ∷ [])) → r.count ≤ list_limit + 1 → r.end ≡ list.end
+      → Listing all r after
+  list_goes_on call after e calls within end =
+      let next = more left p.bytes call after e in
       record {
-        broken = sym (p.broken ∙ ap (λ (r : Readings). r.broken) e);
-        count = rw listing p.count;
-        calls = λ l. rw listing (p.calls (rw listing at l));
-      }
-
-  pub list_ends : length left ≤ 0 → ReadsList all (record { list = list; broken = false })
-  list_ends l = whole false (ended left l)
-
-  pub list_breaks : 0 < length left → read_record left ≡ none → ReadsList all (record { list = list; broken = true })
-  list_breaks l e = whole true (broken left l e)
-
-  pub list_goes_on : {r : CallList} (content : Record) (after : List ℕ) → read_record left ≡ some (content, after)
-      → Adds list content r → Listing all r after
-  list_goes_on content after e a =
-      let next = more left p.bytes content after e in
-      let shorter = after_call left p.bytes content after e in
-      let longer : length (p.done ++ (content ∷ [])) ≡ length p.done + 1 =
-      length-append p.done (content ∷ []) in
-      record {
-        done = p.done ++ (content ∷ []);
-        split = p.split ∙ rw next (sym (append_assoc p.done (content ∷ []) (calls_in after)));
+        done = p.done ++ (call ∷ []);
+        split = p.split ∙ rw next (sym (append_assoc p.done (call ∷ []) (calls_in after)));
         broken = p.broken ∙ ap (λ (r : Readings). r.broken) next;
-        count = a.count ∙ rw longer (ap (λ (n : ℕ). n + 1) p.count);
-        calls = λ l.
-            a.calls (omega (arith, longer, p.count))
-            ∙ ap (λ (cs : List Record). cs ++ (content ∷ [])) (p.calls (omega (arith, longer)));
-        bytes = bytes_after shorter p.bytes;
-        fewer = omega (arith, fewer shorter, a.count, p.fewer);
+        within = within;
+        calls = calls ∙ rw p.calls (take_both (list_limit + 1) p.done (call ∷ []));
+        end = end ∙ p.end;
+        bytes = bytes_after (after_call left p.bytes call after e) p.bytes;
       }
+
+  -- and what is left gets shorter
+  pub list_shorter : (call : Record) (after : List ℕ) → read_record left ≡ some (call, after)
+      → length after < length left
+  list_shorter call after e = omega (arith, fewer (after_call left p.bytes call after e))

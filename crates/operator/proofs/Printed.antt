@@ -83,6 +83,9 @@ module _ (r : Record) {w : Written} (e : w ≡ written r) where
   pub written_within : w.count ≤ length w.bytes
   written_within = omega (arith, written_count, length-take w.count w.bytes)
 
+  pub written_few : w.count ≤ longest
+  written_few = rw (written_count, written_bytes) (record_length r)
+
   -- so a line that opens with them, whatever ends it in so many bytes
   pub line_printed : (number most : ℕ) (end : List ℕ) {b a : List ℕ} {at n : ℕ}
       → Appends (call_bytes (length (bytes_of w)) + most) b at (call_text (bytes_of w) number ++ end) a n
@@ -94,6 +97,10 @@ module _ (r : Record) {w : Written} (e : w ≡ written r) where
       (omega (arith, record_length r))
 
 -- the lines of a part, by its array's places
+abbrev pub line : (ℕ → Record) → Part → List ℕ → ℕ → List ℕ
+line call part rooms i =
+    let place : ℕ = get_or part.places i 0 in kept_line (call place) place (get_or rooms i 0)
+
 module _ (call : ℕ → Record) {part : Part} (rooms : List ℕ) (h : Held part) (some_call : 0 < part.count)
     (n : ℕ) where
   abbrev line_at : ℕ → ℕ → List ℕ
@@ -102,25 +109,22 @@ module _ (call : ℕ → Record) {part : Part} (rooms : List ℕ) (h : Held part
   abbrev last_at : ℕ → List ℕ
   last_at place = last_kept (call place) place n
 
-  abbrev line : ℕ → List ℕ
-  line i = line_at i (get_or part.places i 0)
-
   place_at_lem : (i : ℕ) → i < part.count → get_or part.places i 0 ≡ get_or (kept part) i 0
   place_at_lem i l = sym (kept_at h i l)
 
-  printed_text : concat_below (part.count - 1) line ++ last_at (get_or part.places (part.count - 1) 0)
+  printed_text : concat_below (part.count - 1) (line call part rooms) ++ last_at (get_or part.places (part.count - 1) 0)
       ≡ part_text call (kept part) rooms n
   printed_text =
       let few = kept_length h in
       rw (
         few,
         place_at_lem (part.count - 1) (omega arith),
-        concat_cong (part.count - 1) line (λ i. line_at i (get_or (kept part) i 0))
+        concat_cong (part.count - 1) (line call part rooms) (λ i. line_at i (get_or (kept part) i 0))
             (λ i l. ap (line_at i) (place_at_lem i (omega arith))),
       )
 
   pub part_printed : {b m a : List ℕ} {at r s : ℕ}
-      → Appends ((part.count - 1) * sent_bytes longest) b at (concat_below (part.count - 1) line) m r
+      → Appends ((part.count - 1) * sent_bytes longest) b at (concat_below (part.count - 1) (line call part rooms)) m r
       → Appends (last_bytes longest) m r (last_at (get_or part.places (part.count - 1) 0)) a s
       → Appends part_bytes b at (part_text call (kept part) rooms n) a s
   part_printed {b} {a = a} {at} {s = s} p q =

@@ -1,18 +1,20 @@
 -- Laws of lines: the lines of a run's replies are those of what the slow engine answers, one for each call.
-use Prim.Native.Nat.{ℕ, zero, suc, ◌+◌}
-use mathlib.Core.Path.{◌≡◌, refl, ◌∙◌}
+use Prim.Native.Nat.{ℕ, zero, suc, ◌+◌, ◌≤◌}
+use mathlib.Core.Path.{◌≡◌, refl, ap, ◌∙◌}
 use mathlib.Core.List.{List, [], ◌∷◌, ◌++◌, map, append_assoc, append-nil}
-use lib.ListN.{length}
+use lib.ListN.{length, get_or, take}
+use lib.Seq.{length-take-le, get_or-take}
 use native.Mathlib.Omega.{arith}
 use Rattle.model.specs.Notation.{tabulate, concat_below}
 use Rattle.model.specs.Program.{Line}
 use Rattle.model.specs.ProgramsAreRuns.{reply_lines}
 use Rattle.model.specs.Run.{Reply}
-use Rattle.model.proofs.laws.Lists.{tabulate_length}
+use Rattle.model.proofs.laws.Lists.{tabulate_length, concat_cong}
 use Rattle.report.specs.Text.{said_line, line_text, lines_text}
+use Rattle.slow.specs.declared.CallAnswer.{CallAnswer}
 use Rattle.slow.specs.declared.Replayed.{Replayed}
-use Rattle.slow.specs.Replays.{Told, answered, all_told}
-use Rattle.operator.specs.Replaying.{answer_lines}
+use Rattle.slow.specs.Replays.{Told, answered, all_told, unanswered}
+use Rattle.operator.specs.Replaying.{answer_line, answer_lines}
 
 pub lines_append : (xs ys : List Line) → lines_text (xs ++ ys) ≡ lines_text xs ++ lines_text ys
 unfolding lines_text
@@ -55,3 +57,12 @@ told_below (suc k) f =
 pub told_lines : (r : Replayed) (rs : List Reply) → all_told r ≡ map answered rs
     → lines_text (reply_lines 1 rs) ≡ answer_lines r.count r.answers
 told_lines r rs e = replies_told 1 rs ∙ rw (← e) (told_below r.count _)
+
+-- and those of the first n answers are the lines of as many
+pub taken_lines : (n : ℕ) (answers : List CallAnswer) → n ≤ length answers
+    → answer_lines (length (take n answers)) (take n answers) ≡ answer_lines n answers
+taken_lines n answers l =
+    rw (length-take-le n answers l)
+    (concat_cong n (λ i. answer_line (i + 1) (get_or (take n answers) i unanswered))
+    (λ i. answer_line (i + 1) (get_or answers i unanswered))
+    (λ i k. ap (answer_line (i + 1)) (get_or-take n answers i unanswered k)))

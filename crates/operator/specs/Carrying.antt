@@ -1,21 +1,20 @@
 -- Questions 2 and 3, a store carried to the new form and back. They are asked of a plan as `head` has it, and then the
 -- source's cells, 4 bytes each, lowest first.
 use Rattle.std.specs.Prelude.{ℕ, ◌+◌, ◌*◌, ◌/◌, ◌%◌, Bool, true, false, List, length, get_or, drop, eqb}
+use Rattle.std.specs.Prelude.{Result, Ok, Err}
 use Rattle.std.proofs.Math.Option.{Option, none, some}
 use Rattle.model.specs.declared.Topology.{Topology}
 use Rattle.model.specs.Notation.{tabulate}
 use Rattle.model.specs.Form.{Form}
 use Rattle.model.specs.Layout.{present}
-use Rattle.model.specs.Outcome.{refusal_number}
 use Rattle.model.specs.Program.{plan_of, plan_length, plan_refusal}
 use Rattle.model.specs.Record.{lowest_first}
 use Rattle.reading.specs.Old.{old}
 use Rattle.migration.specs.Carry.{Carried, carry}
 use Rattle.operator.specs.declared.carry.Way.{Way}
 use Rattle.operator.specs.declared.carry.Way.TheVariants.{Upgrade, Downgrade}
-use Rattle.operator.specs.declared.carry.Ending.{Ending}
-use Rattle.operator.specs.declared.carry.Ending.TheVariants.{PlanRefused, Refused, Done}
-use Rattle.operator.specs.ConsoleAnswer.{ConsoleAnswer, plan_refused, refused, carried}
+use Rattle.operator.specs.declared.refused.Refused.{Refused}
+use Rattle.operator.specs.ConsoleAnswer.{ConsoleAnswer, plan_refused, refused, carried, refused_in}
 
 -- the forms that a store is carried from and to
 abbrev pub source_form : Way → Form
@@ -62,7 +61,6 @@ unfoldable pub carrying : Form → Form → List ℕ → List ℕ → ConsoleAns
 carrying F G bytes target = source_answer (plan_refusal bytes) F G bytes target
 
 -- what each case of the code's answer says, with what the target then holds
-abbrev pub ending_in : Ending → List ℕ → ConsoleAnswer
-ending_in (PlanRefused r) target = plan_refused (refusal_number r)
-ending_in (Refused r) target = refused (refusal_number r)
-ending_in Done target = carried target
+abbrev pub ending_in : Result (Unit {0}) Refused → List ℕ → ConsoleAnswer
+ending_in (Ok x) target = carried target
+ending_in (Err r) target = refused_in r

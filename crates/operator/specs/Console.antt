@@ -1,13 +1,14 @@
 -- The program `console`, as data: what is asked, and what is answered.
-use Rattle.std.specs.Prelude.{ℕ, ◌+◌, Bool, true, false, cond, List, [], ◌∷◌, take, drop, eqb}
-use Rattle.std.proofs.Math.Option.{Option, none, some}
+use Rattle.std.specs.Prelude.{ℕ, ◌+◌, Bool, true, false, cond, List, [], ◌∷◌, take, drop, eqb, Option, Some, None}
+use Rattle.std.proofs.Math.Option as maybe
+use Rattle.std.proofs.Math.Option.{none, some}
 use Rattle.model.specs.declared.Topology.{Topology}
 use Rattle.model.specs.declared.Record.{Record}
 use Rattle.model.specs.Program.{input_bytes, plan_of, plan_length, plan_refusal, head}
 use Rattle.model.specs.Reduction.{Sought, refuses, finds, sought, list_refusal}
 use Rattle.report.specs.Changed.{start_store}
 use Rattle.operator.specs.declared.Question.{Question}
-use Rattle.operator.specs.declared.Question.TheVariants.{Reduction, Carry, Replay, Unknown}
+use Rattle.operator.specs.declared.Question.TheVariants.{Reduction, Carry, Replay}
 use Rattle.operator.specs.declared.carry.Way.TheVariants.{Upgrade, Downgrade}
 use Rattle.operator.specs.ConsoleAnswer.{ConsoleAnswer, plan_refused, refused, reduced, replayed}
 use Rattle.operator.specs.Carrying.{source_form, target_form, carrying}
@@ -25,7 +26,7 @@ list_answer true plan T calls = refused 7
 list_answer false plan T calls = sought_answer plan T calls (sought T calls)
 
 -- and first the plan's refusal, as `head` has it
-unfoldable pub plan_answer : Option ℕ → List ℕ → ConsoleAnswer
+unfoldable pub plan_answer : maybe.Option ℕ → List ℕ → ConsoleAnswer
 plan_answer (some n) bytes = plan_refused n
 plan_answer none bytes =
     let records : List ℕ = drop (plan_length bytes) bytes in
@@ -37,12 +38,12 @@ reduction bytes = plan_answer (plan_refusal bytes) bytes
 
 -- Question 4, of an input as `head`'s (document 02, M-106; the slow engine works it out): what `head` prints of these
 -- very bytes, also where they break off; but where the list is refused, which is by 18, that number
-unfoldable pub output_answer : Option ℕ → List ℕ → ConsoleAnswer
+unfoldable pub output_answer : maybe.Option ℕ → List ℕ → ConsoleAnswer
 output_answer (some n) bytes = refused n
 output_answer none bytes = replayed (head bytes)
 
 -- Before it comes the plan's refusal. (1 to 5 and 19 of the list are the plan's.)
-unfoldable pub replay_answer : Option ℕ → List ℕ → ConsoleAnswer
+unfoldable pub replay_answer : maybe.Option ℕ → List ℕ → ConsoleAnswer
 replay_answer (some n) bytes = plan_refused n
 replay_answer none bytes =
     output_answer (list_refusal (plan_of bytes) (calls_in (drop (plan_length bytes) bytes))) bytes
@@ -64,12 +65,12 @@ downgrade_asked = 3
 abbrev pub replay_asked : ℕ
 replay_asked = 4
 
-unfoldable pub asked_in : List ℕ → Question
-asked_in [] = Unknown
+unfoldable pub asked_in : List ℕ → Option Question
+asked_in [] = None
 asked_in (b ∷ bytes) =
-    cond (eqb b reduction_asked) Reduction
-    (cond (eqb b upgrade_asked) (Carry Upgrade)
-    (cond (eqb b downgrade_asked) (Carry Downgrade) (cond (eqb b replay_asked) Replay Unknown)))
+    cond (eqb b reduction_asked) (Some Reduction)
+    (cond (eqb b upgrade_asked) (Some (Carry Upgrade))
+    (cond (eqb b downgrade_asked) (Some (Carry Downgrade)) (cond (eqb b replay_asked) (Some Replay) None)))
 
 -- how many bytes are taken with it, and what it is asked of: the first 65,536 bytes after it
 abbrev pub bytes_taken : ℕ
@@ -80,11 +81,11 @@ taken_in input = take input_bytes (drop 1 input)
 
 -- Nothing known is 7, whether there is no input or another first byte. What a store is carried into starts full of
 -- rubbish, and is long enough.
-unfoldable pub answer_to : Question → List ℕ → ConsoleAnswer
-answer_to Reduction bytes = reduction bytes
-answer_to (Carry w) bytes = carrying (source_form w) (target_form w) bytes start_store
-answer_to Replay bytes = replaying bytes
-answer_to Unknown bytes = refused 7
+unfoldable pub answer_to : Option Question → List ℕ → ConsoleAnswer
+answer_to (Some Reduction) bytes = reduction bytes
+answer_to (Some (Carry w)) bytes = carrying (source_form w) (target_form w) bytes start_store
+answer_to (Some Replay) bytes = replaying bytes
+answer_to None bytes = refused 7
 
 unfoldable pub console : List ℕ → ConsoleAnswer
 console input = answer_to (asked_in input) (taken_in input)

@@ -7,6 +7,7 @@ pub mod ConsoleAnswer
 pub mod ConsoleText
 pub mod File
 pub mod Lists
+pub mod Planned
 pub mod Printing
 pub mod Replaying
 pub mod SameLine

@@ -1,9 +1,10 @@
 -- The list of calls that bytes hold, as `head` reads its records.
-use Rattle.std.specs.Prelude.{ℕ, ◌+◌, ◌<◌, ◌≤◌, ◌≡◌, Bool, List, [], ◌∷◌, ◌++◌, map, length}
+use Rattle.std.specs.Prelude.{ℕ, ◌+◌, ◌≤◌, ◌≡◌, Bool, cond, List, map, length, take}
+use Rattle.std.proofs.Math.Option.{Option, none, some}
 use Rattle.model.specs.declared.Record.{Record}
-use Rattle.model.specs.declared.CallList.{CallList}
 use Rattle.model.specs.Program.{Request, full, Readings, read_all}
-use Rattle.model.specs.CallList.{list_limit, listed}
+use Rattle.model.specs.CallList.{list_limit}
+use Rattle.model.specs.Outcome.{refusal_of}
 use Rattle.operator.specs.declared.list.ListRead.{ListRead}
 
 -- all that the bytes hold
@@ -17,14 +18,16 @@ calls_in bytes = map (λ (r : Request). r.content) (read_calls bytes).requests
 abbrev pub broken_off : List ℕ → Bool
 broken_off bytes = (read_calls bytes).broken
 
--- a list with this call at its end; one that has no room for it only counts it
-pub record Adds (list : CallList) (content : Record) (r : CallList) : Type 0 where
-  pub count : r.count ≡ list.count + 1
-  pub calls : list.count < list_limit → listed r ≡ listed list ++ (content ∷ [])
+-- the calls that are held
+abbrev pub held : ListRead → List Record
+held r = take r.count r.calls
 
--- As many calls as there are; and where there are no more than 256, these very calls. A longer list is refused for its
--- length.
+-- the number that the reading ends with, where the bytes break off
+abbrev pub end_refusal : Bool → Option ℕ
+end_refusal broken = cond broken (some 7) none
+
+-- The bytes' calls; of more than 256 only 257, since a longer list is refused for its length alone. And how they end.
 pub record ReadsList (bytes : List ℕ) (r : ListRead) : Type 0 where
-  pub broken : r.broken ≡ broken_off bytes
-  pub count : r.list.count ≡ length (calls_in bytes)
-  pub calls : length (calls_in bytes) ≤ list_limit → listed r.list ≡ calls_in bytes
+  pub end : refusal_of r.end ≡ end_refusal (broken_off bytes)
+  pub within : r.count ≤ list_limit + 1
+  pub calls : held r ≡ take (list_limit + 1) (calls_in bytes)

@@ -14,27 +14,20 @@ pub fn read(bytes: &[u8], cells: &mut [u32])
     requires { length bytes.now / 4 ≤ length cells.old }
     ensures { take (length bytes.now / 4) cells.new ≡ cells_in bytes.now }
 {
-    let count = bytes.len() / CELL_BYTES;
-    let mut i: usize = 0;
-    while i < count {
+    for i in 0..bytes.len() / CELL_BYTES {
         let at = CELL_BYTES * i;
-        cells[i] = record::word(bytes[at], bytes[at + 1], bytes[at + 2], bytes[at + 3]);
-        i += 1;
+        cells[i] = u32::from_le_bytes([bytes[at], bytes[at + 1], bytes[at + 2], bytes[at + 3]]);
     }
 }
 
-// The first cells, as many as are asked for, from this position of the buffer on.
-pub fn write(cells: &[u32], count: usize, out: &mut [u8], at: usize) -> usize
-    requires { count ≤ length cells.now }
-    ensures { Appends (count * 4) out.old at
-        (cells_bytes count cells.now) out.new result }
+// All of these cells, from this position of the buffer on.
+pub fn write(cells: &[u32], out: &mut [u8], at: usize) -> usize
+    ensures { Appends (length cells.now * 4) out.old at
+        (cells_bytes (length cells.now) cells.now) out.new result }
 {
     let mut next = at;
-    let mut i: usize = 0;
-    while i < count {
-        let bytes = record::word_bytes(cells[i]);
-        next = report::bytes(out, next, &bytes);
-        i += 1;
+    for cell in cells {
+        next = report::bytes(out, next, &cell.to_le_bytes());
     }
     next
 }

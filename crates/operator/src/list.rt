@@ -1,54 +1,55 @@
 // The list of calls in the bytes after a plan.
-ghost use Rattle.std.specs.Prelude.{◌≤◌, ◌<◌, length};
-ghost use Rattle.model.specs.Program.{input_bytes};
-ghost use Rattle.operator.specs.Lists.{Adds, ReadsList};
+ghost use Rattle.std.specs.Prelude.{◌≡◌, ◌+◌, ◌∷◌, [], ◌++◌, ◌≤◌, take};
+ghost use Rattle.model.specs.CallList.{list_limit};
+ghost use Rattle.operator.specs.Lists.{held, ReadsList};
 
-use model::{CallList, LISTED, Listed, Record};
-use record::RecordRead;
+use model::{LISTED, Record, Refusal};
 
-// The list that bytes hold, and whether the bytes after its calls aren't a record.
+// One more than a list can have, so that it shows of a longer one that it is.
+const PLACES: usize = LISTED + 1;
+
+// The list that bytes hold, as far as there are places: so many calls. (An array with a count, since memory is fixed.)
+// And whether the bytes after its calls end, or aren't a record.
 #[derive(Clone, Copy)]
 pub struct ListRead {
-    pub list: CallList,
-    pub broken: bool,
+    pub calls: [Record; PLACES],
+    pub count: usize,
+    pub end: Result<(), Refusal>,
 }
 
-// A list with one more call. Past 256 places only the count grows.
-fn add(mut list: CallList, content: Record) -> CallList
-    requires { list.count < 65535 }
-    ensures { Adds list content result }
+// One more call, if there is a place for it.
+fn add(list: &mut ListRead, call: Record)
+    requires { list.old.count ≤ list_limit + 1 }
+    ensures held { held list.new ≡ take (list_limit + 1) (held list.old ++ (call ∷ [])) }
+    ensures within { list.new.count ≤ list_limit + 1 }
+    ensures end { list.new.end ≡ list.old.end }
 {
-    let at = list.count as usize;
-    list.count += 1;
-    if at < LISTED {
-        list.calls[at] = Listed { content };
+    if list.count < PLACES {
+        list.calls[list.count] = call;
+        list.count += 1;
     }
-    list
 }
 
-// All records that the bytes hold, in order. A 7 ends the reading, and so does the end of the bytes.
+// All records that the bytes hold, in order. A 7 ends the reading, and so does the end of the bytes. (A `while`: how
+// many records there are isn't known.)
 pub fn read(bytes: &[u8]) -> ListRead
-    requires { length bytes.now ≤ input_bytes }
     ensures { ReadsList bytes.now result }
 {
-    let unused = Listed {
-        content: Record::Recover,
-    };
-    let mut list = CallList {
-        calls: [unused; LISTED],
+    let mut list = ListRead {
+        calls: [Record::Recover; PLACES],
         count: 0,
+        end: Ok(()),
     };
     let mut left = bytes;
-    while 0 < left.len() {
-        let RecordRead::Read(content) = record::read(left) else {
-            return ListRead { list, broken: true };
-        };
-        let after = record::rest(left);
-        left = after;
-        list = add(list, content);
+    while !left.is_empty() {
+        match record::read(left) {
+            Ok(call) => add(&mut list, call),
+            Err(r) => {
+                list.end = Err(r);
+                return list;
+            }
+        }
+        left = record::rest(left);
     }
-    ListRead {
-        list,
-        broken: false,
-    }
+    list
 }
