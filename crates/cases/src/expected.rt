@@ -3,43 +3,43 @@ use crate::hand::{RUBBISH, STORE_CELLS};
 use model::{FULL_BUDGET, Outcome, State, Step};
 use std::io;
 
-// An answer as a line of document 01's listing has it: a word, by its first letter, the number after it (0 where there
-// is none), and the writes made.
-#[derive(Clone, Copy)]
-pub struct Told {
-    word: u8,
-    value: u32,
-    made: u32,
+// What an answer says, as document 01's listing has it: a word, and its number if it has one.
+#[derive(Clone, Copy, Debug, PartialEq, Eq)]
+enum Said {
+    Done,
+    Sent(u8),
+    Took(u32),
+    Note,
+    Line(u32),
+    Refused(u8),
+    Cut,
 }
 
-const REFUSED: u8 = b'r';
-
-// With no writes made.
-fn unwritten(word: u8, value: u32) -> Told {
-    Told {
-        word,
-        value,
-        made: 0,
-    }
+// A line of that listing: what is said, and the writes made.
+#[derive(Clone, Copy, Debug, PartialEq, Eq)]
+pub struct Told {
+    said: Said,
+    made: u32,
 }
 
 pub fn done(made: u32) -> Told {
     Told {
-        word: b'd',
-        value: 0,
+        said: Said::Done,
         made,
     }
 }
 
 pub fn sent(room: u8) -> Told {
-    unwritten(b's', room as u32)
+    Told {
+        said: Said::Sent(room),
+        made: 0,
+    }
 }
 
 // Logged, so that there are writes.
 pub fn logged(body: u32, made: u32) -> Told {
     Told {
-        word: b't',
-        value: body,
+        said: Said::Took(body),
         made,
     }
 }
@@ -50,43 +50,47 @@ pub fn took(body: u32) -> Told {
 
 pub fn cut(made: u32) -> Told {
     Told {
-        word: b'c',
-        value: 0,
+        said: Said::Cut,
         made,
     }
 }
 
 pub fn note() -> Told {
-    unwritten(b'n', 0)
+    Told {
+        said: Said::Note,
+        made: 0,
+    }
 }
 
 pub fn line(k: u32) -> Told {
-    unwritten(b'l', k)
+    Told {
+        said: Said::Line(k),
+        made: 0,
+    }
 }
 
 pub fn refused(number: u8) -> Told {
-    unwritten(REFUSED, number as u32)
+    Told {
+        said: Said::Refused(number),
+        made: 0,
+    }
 }
 
 // What a step tells.
 fn as_told(outcome: Outcome, made: u32) -> Told {
-    let mut told = match outcome {
-        Outcome::Done => done(0),
-        Outcome::Sent(room) => sent(room),
-        Outcome::Received(body) => took(body),
-        Outcome::ReceivedMarker => note(),
-        Outcome::Refused(r) => refused(rules::refusal::number(r)),
-        Outcome::PowerLost => cut(0),
+    let said = match outcome {
+        Outcome::Done => Said::Done,
+        Outcome::Sent(room) => Said::Sent(room),
+        Outcome::Received(body) => Said::Took(body),
+        Outcome::ReceivedMarker => Said::Note,
+        Outcome::Refused(r) => Said::Refused(rules::refusal::number(r)),
+        Outcome::PowerLost => Said::Cut,
     };
-    told.made = made;
-    told
+    Told { said, made }
 }
 
-pub fn same(a: Told, b: Told) -> bool {
-    a.word == b.word && a.value == b.value && a.made == b.made
-}
-
-// A trial of steps: the state that it has come to, and whether every answer so far was the expected one.
+// A trial of steps: the state that it has come to, and whether every answer so far was the expected one. (No Result: a
+// trial goes on from its state whatever was answered.)
 #[derive(Clone, Copy)]
 pub struct Trial {
     pub state: State,
@@ -110,33 +114,25 @@ pub fn then_within(
     store: &mut [u32],
     expected: Told,
 ) -> Trial {
-    let before = trial.state;
-    let answer = engine::step(before, step, store, budget);
-    let outcome = answer.outcome;
-    let ok = trial.ok && same(as_told(outcome, answer.made), expected);
-    let state = answer.state;
-    Trial { state, ok }
+    let answer = engine::step(trial.state, step, store, budget);
+    Trial {
+        state: answer.state,
+        ok: trial.ok && as_told(answer.outcome, answer.made) == expected,
+    }
 }
 
 // Whether every cell is as it was at first.
 pub fn untouched(store: &[u32]) -> bool {
-    let mut i: usize = 0;
-    while i < store.len() {
-        if store[i] != RUBBISH {
-            return false;
-        }
-        i += 1;
-    }
-    true
+    store.iter().all(|&cell| cell == RUBBISH)
 }
 
 // Whether a step on a store of rubbish is answered so. Where it is refused, it is refused again in the state answered,
 // and the store is as it was.
 fn gives_on(store: &mut [u32], state: State, step: Step, expected: Told) -> bool {
     let once = then(from(state), step, store, expected);
-    if expected.word != REFUSED {
+    let Said::Refused(_) = expected.said else {
         return once.ok;
-    }
+    };
     let twice = then(once, step, store, expected);
     twice.ok && untouched(store)
 }

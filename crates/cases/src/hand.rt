@@ -1,5 +1,6 @@
 // Topologies and states made by hand: one of each to start from, and functions that change a thing of it.
-use model::{CHANNELS, Entry, PLACES, PROCESSES, Phase, Round, State, Step, Topology};
+use crate::starts::ready;
+use model::{CHANNELS, Entry, Flags, PLACES, PROCESSES, Phase, State, Step, Topology};
 use rules::channel;
 
 // The papers' numbers stand here by hand, so that the code's own constants are tried too: the cells of a store, the
@@ -55,8 +56,7 @@ pub fn with_late(mut topology: Topology, map: u16) -> Topology {
 // The state that initialize leaves for the pair: idle at line 0, words and tags 0, channels and logs empty.
 pub fn idle() -> State {
     let mut store = [RUBBISH; STORE_CELLS];
-    let started = engine::initialize(pair(), &mut store);
-    started.state
+    ready(engine::initialize(pair(), &mut store))
 }
 
 // The same for the pair with process 1 late.
@@ -70,29 +70,19 @@ pub fn with_topology(mut state: State, topology: Topology) -> State {
 }
 
 pub fn at_line(mut state: State, line: u32) -> State {
-    let round = state.round;
-    let phase = round.phase;
-    let moved = Round { line, phase };
-    state.round = moved;
+    state.round.line = line;
     state
 }
 
 pub fn in_phase(mut state: State, phase: Phase) -> State {
-    let round = state.round;
-    let moved = Round {
-        line: round.line,
-        phase,
-    };
-    state.round = moved;
+    state.round.phase = phase;
     state
 }
 
 // So many messages on a channel.
 pub fn with_messages(mut state: State, channel: usize, count: u8) -> State {
     let c = channel % CHANNELS;
-    let mut places = state.places[c];
-    places.bodies = [BODY; PLACES];
-    state.places[c] = places;
+    state.places[c].bodies = [BODY; PLACES];
     state.lengths[c] = count;
     state
 }
@@ -125,49 +115,40 @@ pub fn with_marker(state: State, channel: usize) -> State {
 
 // Every process with its logical checkpoint, and every channel closed.
 pub fn with_all_set(mut state: State) -> State {
-    let mut flags = state.flags;
-    flags.logical = [true; PROCESSES];
-    flags.closed = [true; CHANNELS];
-    state.flags = flags;
+    state.flags = Flags {
+        logical: [true; PROCESSES],
+        closed: [true; CHANNELS],
+        ..state.flags
+    };
     state
 }
 
 // A process with its logical checkpoint.
 pub fn with_logical(mut state: State, process: usize) -> State {
-    let mut flags = state.flags;
-    flags.logical[process % PROCESSES] = true;
-    state.flags = flags;
+    state.flags.logical[process % PROCESSES] = true;
     state
 }
 
 // A late process with its physical checkpoint in this round.
 pub fn with_saved(mut state: State, process: usize) -> State {
-    let mut flags = state.flags;
-    flags.saved[process % PROCESSES] = true;
-    state.flags = flags;
+    state.flags.saved[process % PROCESSES] = true;
     state
 }
 
 pub fn with_closed(mut state: State, channel: usize) -> State {
-    let mut flags = state.flags;
-    flags.closed[channel % CHANNELS] = true;
-    state.flags = flags;
+    state.flags.closed[channel % CHANNELS] = true;
     state
 }
 
 // So many entries in the message log of a process.
 pub fn with_message_log(mut state: State, process: usize, count: u8) -> State {
-    let mut counts = state.counts;
-    counts.messages[process % PROCESSES] = count;
-    state.counts = counts;
+    state.counts.messages[process % PROCESSES] = count;
     state
 }
 
 // So many entries in the log of a channel.
 pub fn with_channel_log(mut state: State, channel: usize, count: u8) -> State {
-    let mut counts = state.counts;
-    counts.channels[channel % CHANNELS] = count;
-    state.counts = counts;
+    state.counts.channels[channel % CHANNELS] = count;
     state
 }
 

@@ -1,15 +1,14 @@
 // The steps by their kinds, as document 01 numbers them.
-use crate::expected::{Told, done, gives, refused, same, sent, tell, took};
+use crate::expected::{Told, done, gives, refused, sent, tell, took};
 use crate::hand::{BODY, idle, in_phase, with_all_set, with_messages};
 use model::{Phase, State};
-use record::StepRead;
 use std::io;
 
 // With process 0, channel 1 and the body, whichever of them the kind uses: no record can have all three.
 fn kind_gives(state: State, kind: u8, expected: Told) -> bool {
     match record::step_of(kind, 0, 1, BODY) {
-        StepRead::Read(step) => gives(state, step, expected),
-        StepRead::Refused(r) => same(refused(rules::refusal::number(r)), expected),
+        Ok(step) => gives(state, step, expected),
+        Err(r) => refused(rules::refusal::number(r)) == expected,
     }
 }
 

@@ -123,7 +123,6 @@ fn written(budget: u32, expected: Told, again: Told) -> bool {
     let anti_body = taken_back(&mut store, 2915, BODY, 3 <= budget);
     let anti_channel = taken_back(&mut store, 2916, 0, 4 <= budget);
     let anti_count = taken_back(&mut store, 2788, 64, 5 <= budget);
-    let state = once.state;
     once.ok
         && body
         && count
@@ -131,7 +130,7 @@ fn written(budget: u32, expected: Told, again: Told) -> bool {
         && anti_channel
         && anti_count
         && untouched(&store)
-        && gives(state, receive(), again)
+        && gives(once.state, receive(), again)
 }
 
 // Cut, the same receive follows and is done; done, the channel is empty.

@@ -25,8 +25,8 @@ use crate::hand::{
     with_topology,
 };
 use crate::starts::{
-    COUNT_OF_CHANNEL_1, COUNT_OF_PROCESS_1, COUNT_OF_PROCESS_2, answered, recovers_with, replayed,
-    starts_short,
+    COUNT_OF_CHANNEL_1, COUNT_OF_PROCESS_1, COUNT_OF_PROCESS_2, answered, ready, recovers_with,
+    replayed, starts_short,
 };
 use model::{Phase, State, Step};
 use std::io;
@@ -39,23 +39,18 @@ fn last_line(rt: &impl Print) -> io::Result<()> {
     let mut store = [0; STORE_CELLS];
     store[LINE_CELL] = LAST_LINE - 1;
     let old = recovery::recover(alone, &store);
-    let state = old.state;
-    let in_physical = then(from(state), Step::Begin, &mut store, done(1));
+    let in_physical = then(from(ready(old)), Step::Begin, &mut store, done(1));
     let in_logical = then(in_physical, physical, &mut store, done(1));
-    let ready = then(in_logical, logical, &mut store, done(0));
-    let committed = then(ready, Step::Commit, &mut store, done(1));
+    let marked = then(in_logical, logical, &mut store, done(0));
+    let committed = then(marked, Step::Commit, &mut store, done(1));
     let new = recovery::recover(alone, &store);
-    let under_way = in_physical.state;
-    let round = under_way.round;
-    let last = committed.state;
-    let again = new.state;
     let ok = answered(old, line(LAST_LINE - 1))
-        && round.line == LAST_LINE - 1
+        && in_physical.state.round.line == LAST_LINE - 1
         && committed.ok
         && store[LINE_CELL] == LAST_LINE
         && answered(new, line(LAST_LINE))
-        && gives(last, Step::Begin, refused(13))
-        && gives(again, Step::Begin, refused(13));
+        && gives(committed.state, Step::Begin, refused(13))
+        && gives(ready(new), Step::Begin, refused(13));
     tell(rt, "k = 4,294,967,294 begins; one more is 13.", ok)
 }
 
@@ -99,11 +94,10 @@ fn marker_on_closed(rt: &impl Print) -> io::Result<()> {
 
 // Channel 0 is empty then and open, and its receiver has no logical checkpoint: its tag isn't turned over.
 fn merely_removed(state: State) -> bool {
-    let flags = state.flags;
     gives(state, Step::Receive { channel: 0 }, refused(10))
         && !state.tags[1]
-        && !flags.logical[1]
-        && !flags.closed[0]
+        && !state.flags.logical[1]
+        && !state.flags.closed[0]
 }
 
 // In this phase a marker is taken, and a message of another tag than its receiver's; and the round goes on.
@@ -114,13 +108,11 @@ fn outside_logical(phase: Phase, next: Step, expected: Told) -> bool {
     let mut store = [RUBBISH; STORE_CELLS];
     let one = then(from(marked), receive, &mut store, note());
     let two = then(from(tagged), receive, &mut store, took(BODY));
-    let noted = one.state;
-    let taken = two.state;
     one.ok
         && two.ok
-        && merely_removed(noted)
-        && merely_removed(taken)
-        && gives(noted, next, expected)
+        && merely_removed(one.state)
+        && merely_removed(two.state)
+        && gives(one.state, next, expected)
 }
 
 fn take_outside_logical(rt: &impl Print) -> io::Result<()> {

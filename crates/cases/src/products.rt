@@ -1,36 +1,25 @@
 // What M-100's list, both of M-102's ways and M-106's list are refused with, by their plan.
 use crate::expected::{tell, untouched};
 use crate::hand::{RUBBISH, STORE_CELLS, pair, sized, two_channels, with_late};
-use model::{CallList, LISTED, Listed, Record, Topology, Verdict};
-use reduction::Finding;
+use model::{Record, Refusal, Topology};
 use std::io;
 
 // The cells of a store of the old form.
 const OLD_STORE_CELLS: usize = 3265;
 
+// The longest list that is tried.
+const RESTARTS: [Record; 65535] = [Record::Recover; 65535];
+
 // A list of so many restarts.
-fn restarts(count: u16) -> CallList {
-    let restart = Listed {
-        content: Record::Recover,
-    };
-    let calls = [restart; LISTED];
-    CallList { calls, count }
-}
-
 fn list_gives(topology: Topology, count: u16, number: u8) -> bool {
-    let reduced = reduction::reduce(topology, restarts(count));
-    let found = reduced.found;
-    match found {
-        Finding::Failure(_, _) => false,
-        Finding::Refused(r) => rules::refusal::number(r) == number,
-    }
+    refuses(
+        reduction::reduce(topology, &RESTARTS[..usize::from(count)]),
+        number,
+    )
 }
 
-fn refuses(verdict: Verdict, number: u8) -> bool {
-    match verdict {
-        Verdict::Pass => false,
-        Verdict::Refuse(r) => rules::refusal::number(r) == number,
-    }
+fn refuses<T: Copy>(answer: Result<T, Refusal>, number: u8) -> bool {
+    answer.is_err_and(|r| rules::refusal::number(r) == number)
 }
 
 // From a store that is a cell short (6) to one that stays as it was.
@@ -64,13 +53,10 @@ pub fn unknown_late(rt: &impl Print) -> io::Result<()> {
 
 // Refused with this number, 0 where it isn't refused; and so many calls are answered.
 fn slowly_gives(topology: Topology, count: u16, number: u8, answered: u16) -> bool {
-    let replayed = slow::replay(topology, restarts(count));
-    let verdict = replayed.verdict;
-    let given = match verdict {
-        Verdict::Pass => 0,
-        Verdict::Refuse(r) => rules::refusal::number(r),
-    };
-    given == number && replayed.count == answered
+    match slow::replay(topology, &RESTARTS[..usize::from(count)]) {
+        Ok(replayed) => number == 0 && replayed.count == answered,
+        Err(r) => rules::refusal::number(r) == number && answered == 0,
+    }
 }
 
 // The programs read a plan before its list, so that they can't show which refusal comes first.

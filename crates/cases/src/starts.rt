@@ -1,7 +1,7 @@
 // Initialize and recover on stores made by hand, and whether they answer as expected.
-use crate::expected::{Told, line, refused, same, untouched};
+use crate::expected::{Told, line, refused, untouched};
 use crate::hand::{BODY, LINE_CELL, RUBBISH, STORE_CELLS, pair, sized, with_late};
-use model::{Start, Started, Topology};
+use model::{Refusal, State, Topology};
 
 // Cells of the slot for line 0, which starts at 1. In it the record of process p starts at 130 × p: its physical
 // checkpoint, its log's count, a body and a channel for each entry. That of channel c starts at 2,080 + 9 × c: its
@@ -25,21 +25,23 @@ pub const COUNT_OF_PROCESS_2: usize = 1 + 2 * 130 + 1;
 pub const COUNT_OF_CHANNEL_1: usize = 1 + 2080 + 9;
 
 // "`line` and its number for a restart; `refused` and number"
-pub fn answered(started: Started, expected: Told) -> bool {
-    let state = started.state;
-    let round = state.round;
-    let start = started.start;
-    let told = match start {
-        Start::Ready => line(round.line),
-        Start::Refused(r) => refused(rules::refusal::number(r)),
+pub fn answered(started: Result<State, Refusal>, expected: Told) -> bool {
+    let told = match started {
+        Ok(state) => line(state.round.line),
+        Err(r) => refused(rules::refusal::number(r)),
     };
-    same(told, expected)
+    told == expected
+}
+
+// The state that is answered: one of no process where there is none, so that the case fails.
+pub fn ready(started: Result<State, Refusal>) -> State {
+    started.unwrap_or(recovery::initial(rules::fresh::topology()))
 }
 
 // A recover by a topology after an initialize for the pair and a change of one cell.
 fn recovers(topology: Topology, cell: usize, value: u32, expected: Told) -> bool {
     let mut store = [RUBBISH; STORE_CELLS];
-    engine::initialize(pair(), &mut store);
+    let _ = engine::initialize(pair(), &mut store);
     store[cell % STORE_CELLS] = value;
     answered(recovery::recover(topology, &store), expected)
 }
@@ -68,27 +70,23 @@ pub fn starts_short(topology: Topology, expected: Told) -> bool {
 pub fn replayed(channel: u32) -> u32 {
     let alone = sized(1, 0);
     let mut store = [RUBBISH; STORE_CELLS];
-    engine::initialize(alone, &mut store);
+    let _ = engine::initialize(alone, &mut store);
     store[COUNT_OF_PROCESS_0] = 1;
     store[FIRST_BODY] = BODY;
     store[FIRST_CHANNEL] = channel;
-    let started = recovery::recover(alone, &store);
-    let state = started.state;
-    state.words[0]
+    ready(recovery::recover(alone, &store)).words[0]
 }
 
 // The same where process 0 is late, from this physical checkpoint and two anti-messages, received on these channels.
 pub fn undone(checkpoint: u32, first: u32, second: u32) -> u32 {
     let alone = with_late(sized(1, 0), 1);
     let mut store = [RUBBISH; STORE_CELLS];
-    engine::initialize(alone, &mut store);
+    let _ = engine::initialize(alone, &mut store);
     store[CHECKPOINT_OF_PROCESS_0] = checkpoint;
     store[COUNT_OF_PROCESS_0] = 2;
     store[FIRST_BODY] = BODY;
     store[FIRST_CHANNEL] = first;
     store[SECOND_BODY] = BODY;
     store[SECOND_CHANNEL] = second;
-    let started = recovery::recover(alone, &store);
-    let state = started.state;
-    state.words[0]
+    ready(recovery::recover(alone, &store)).words[0]
 }

@@ -2,17 +2,17 @@
 // sum has the refusal's number, 0 where there is none, and the first process's word.
 use crate::input::cells;
 use crate::sum::{cell_sum, fold};
-use model::{Topology, Verdict};
+use model::{Refusal, Topology};
 use rules::layout::STORE_CELLS;
 
-fn verdict_code(verdict: Verdict) -> u32 {
-    match verdict {
-        Verdict::Pass => 0,
-        Verdict::Refuse(r) => rules::refusal::number(r) as u32,
+fn refusal_code(carried: Result<(), Refusal>) -> u32 {
+    match carried {
+        Ok(()) => 0,
+        Err(r) => u32::from(rules::refusal::number(r)),
     }
 }
 
-fn carry(up: bool, topology: Topology, source: &[u32], target: &mut [u32]) -> Verdict {
+fn carry(up: bool, topology: Topology, source: &[u32], target: &mut [u32]) -> Result<(), Refusal> {
     if up {
         migration::upgrade(topology, source, target)
     } else {
@@ -25,12 +25,10 @@ pub fn run(up: bool, topology: Topology, times: u32, bytes: &[u8]) -> u32 {
     let mut target = [0; STORE_CELLS];
     cells(&mut source, bytes);
     let mut sum = 0;
-    let mut i: u32 = 0;
-    while i < times {
+    for i in 0..times {
         source[3] = i;
-        i += 1;
-        let verdict = carry(up, topology, &source, &mut target);
-        sum = fold(fold(sum, verdict_code(verdict)), target[1]);
+        let carried = carry(up, topology, &source, &mut target);
+        sum = fold(fold(sum, refusal_code(carried)), target[1]);
     }
     cell_sum(sum, &target)
 }

@@ -1,7 +1,7 @@
 // What the input says: numbers, a store's cells, the steps of a script. Past its end all is 0.
 ghost use Rattle.std.specs.Prelude.{◌≤◌, length};
 
-use record::StepRead;
+use model::{Refusal, Step};
 
 // How many bytes a step of a script has, and where the plan starts.
 pub const SCRIPTED: usize = 6;
@@ -9,28 +9,23 @@ pub const SCRIPTED: usize = 6;
 pub const PLAN: usize = 5;
 
 pub fn byte(bytes: &[u8], at: usize) -> u8 {
-    if at < bytes.len() { bytes[at] } else { 0 }
+    bytes.get(at).copied().unwrap_or(0)
 }
 
 // 4 bytes, lowest first.
 pub fn number(bytes: &[u8], at: usize) -> u32 {
-    if bytes.len() < 4 {
+    if bytes.len() < 4 || bytes.len() - 4 < at {
         return 0;
     }
-    if bytes.len() - 4 < at {
-        return 0;
-    }
-    record::word(bytes[at], bytes[at + 1], bytes[at + 2], bytes[at + 3])
+    u32::from_le_bytes([bytes[at], bytes[at + 1], bytes[at + 2], bytes[at + 3]])
 }
 
 // As many cells as the store has, 4 bytes each.
 pub fn cells(store: &mut [u32], bytes: &[u8]) {
     let mut at: usize = 0;
-    let mut i: usize = 0;
-    while i < store.len() {
-        store[i] = number(bytes, at);
-        at = std::num::wrapping_add_usize(at, 4);
-        i += 1;
+    for cell in store {
+        *cell = number(bytes, at);
+        at = at.wrapping_add(4);
     }
 }
 
@@ -45,11 +40,11 @@ pub fn after_plan(bytes: &[u8]) -> usize
     bytes.len() - after.len()
 }
 
-// The first step of a script, or refusal 7; the turn is added to its body.
-pub fn scripted(script: &[u8], turn: u32) -> StepRead {
-    let index = byte(script, 1);
-    let body = std::num::wrapping_add_u32(number(script, 2), turn);
-    record::step_of(byte(script, 0), index, index, body)
+// The step that a script has in these bytes, or refusal 7; the turn is added to its body.
+pub fn step(scripted: &[u8], turn: u32) -> Result<Step, Refusal> {
+    let index = byte(scripted, 1);
+    let body = number(scripted, 2).wrapping_add(turn);
+    record::step_of(byte(scripted, 0), index, index, body)
 }
 
 // A length as a value of the checksum.

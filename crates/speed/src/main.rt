@@ -15,7 +15,6 @@ mod sum;
 mod writes;
 
 use crate::input::{PLAN, after_plan, byte, number};
-use model::Verdict;
 use std::io;
 
 fn work(bytes: &mut [u8]) -> u32 {
@@ -23,12 +22,9 @@ fn work(bytes: &mut [u8]) -> u32 {
         return 0;
     }
     let times = number(bytes, 1);
-    let read = plan::read(&bytes[PLAN..]);
-    let verdict = read.verdict;
-    let Verdict::Pass = verdict else {
+    let Ok(topology) = plan::read(&bytes[PLAN..]) else {
         return 0;
     };
-    let topology = read.topology;
     let at = after_plan(bytes);
     match byte(bytes, 0) {
         1 => steps::run(topology, times, &bytes[at..]),

@@ -5,26 +5,23 @@ use crate::sum::{fold, record_code};
 fn read_all(sum: u32, bytes: &[u8]) -> u32 {
     let mut r = sum;
     let mut left = bytes;
-    while 0 < left.len() {
-        let record::RecordRead::Read(found) = record::read(left) else {
+    for _ in 0..bytes.len() {
+        let Ok(found) = record::read(left) else {
             break;
         };
         r = fold(r, record_code(found));
-        let after = record::rest(left);
-        left = after;
+        left = record::rest(left);
     }
     fold(r, narrowed(left.len()))
 }
 
 pub fn run(times: u32, bytes: &mut [u8]) -> u32 {
     let mut sum = 0;
-    let mut i: u32 = 0;
-    while i < times {
+    for i in 0..times {
         if 3 < bytes.len() {
             bytes[3] = (i % 255) as u8 + 1;
         }
         sum = read_all(sum, bytes);
-        i += 1;
     }
     sum
 }

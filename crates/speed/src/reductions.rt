@@ -1,67 +1,56 @@
 // Work 5: the smallest part of a script that fails as it does. The script is a list of calls, kind 9 a recover; what it
 // has past 256 calls is left out.
-use crate::input::{SCRIPTED, byte, scripted};
+use crate::input::{SCRIPTED, byte, step};
 use crate::sum::{byte_sum, fold};
-use model::{CallList, LISTED, Listed, Record, Topology};
-use record::{RecordRead, StepRead};
-use reduction::Finding;
+use model::{LISTED, Record, Refusal, Topology};
+use reduction::Reduced;
 
-fn call(script: &[u8], turn: u32) -> RecordRead {
-    if byte(script, 0) == record::RECOVER {
-        return RecordRead::Read(Record::Recover);
+fn call(scripted: &[u8], turn: u32) -> Result<Record, Refusal> {
+    if byte(scripted, 0) == record::RECOVER {
+        return Ok(Record::Recover);
     }
-    match scripted(script, turn) {
-        StepRead::Read(step) => RecordRead::Read(Record::Call(step)),
-        StepRead::Refused(r) => RecordRead::Refused(r),
-    }
+    Ok(Record::Call(step(scripted, turn)?))
 }
 
-fn list(script: &[u8], turn: u32) -> CallList {
-    let unused = Listed {
-        content: Record::Recover,
-    };
-    let mut calls = [unused; LISTED];
-    let mut count: u16 = 0;
-    let mut left = script;
-    while (count as usize) < LISTED {
-        if left.len() < SCRIPTED {
-            break;
-        }
-        let RecordRead::Read(content) = call(left, turn) else {
-            break;
+// The script's calls, at the start of those lent, and how many they are.
+fn list(script: &[u8], turn: u32, calls: &mut [Record; LISTED]) -> usize {
+    for count in 0..LISTED {
+        let Some(scripted) = script.get(SCRIPTED * count..SCRIPTED * (count + 1)) else {
+            return count;
         };
-        calls[count as usize] = Listed { content };
-        count += 1;
-        let after = &left[SCRIPTED..];
-        left = after;
+        let Ok(content) = call(scripted, turn) else {
+            return count;
+        };
+        calls[count] = content;
     }
-    CallList { calls, count }
+    LISTED
 }
 
-// The place and the number of the first refusal, or the number alone.
-fn found_sum(sum: u32, found: Finding) -> u32 {
-    match found {
-        Finding::Failure(place, r) => fold(
-            fold(sum, place as u32),
-            rules::refusal::number(r) as u32,
-        ),
-        Finding::Refused(r) => fold(sum, rules::refusal::number(r) as u32),
+fn number(refusal: Refusal) -> u32 {
+    u32::from(rules::refusal::number(refusal))
+}
+
+// The place and the number of the first refusal, or the number alone; and the part that is left, with its rooms.
+fn reduced_sum(sum: u32, answer: Result<Reduced, Refusal>) -> u32 {
+    let none = [0; LISTED];
+    match answer {
+        Ok(reduced) => {
+            let found = fold(fold(sum, u32::from(reduced.place)), number(reduced.refusal));
+            let part = reduced.part;
+            let counted = fold(found, u32::from(part.count));
+            byte_sum(byte_sum(counted, &part.places), &reduced.rooms)
+        }
+        Err(r) => byte_sum(byte_sum(fold(fold(sum, number(r)), 0), &none), &none),
     }
 }
 
 pub fn run(topology: Topology, times: u32, script: &[u8]) -> u32 {
     let mut sum = 0;
-    let mut i: u32 = 0;
-    while i < times {
-        let list = list(script, i);
-        let reduced = reduction::reduce(topology, list);
-        let found = reduced.found;
-        let part = reduced.part;
-        let places = part.places;
-        let rooms = reduced.rooms;
-        sum = fold(found_sum(sum, found), part.count as u32);
-        sum = byte_sum(byte_sum(sum, &places), &rooms);
-        i += 1;
+    for i in 0..times {
+        let mut calls = [Record::Recover; LISTED];
+        let count = list(script, i, &mut calls);
+        let answer = reduction::reduce(topology, &calls[..count.min(LISTED)]);
+        sum = reduced_sum(sum, answer);
     }
     sum
 }

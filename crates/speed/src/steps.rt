@@ -1,8 +1,8 @@
 // Work 1: a script's steps, each with full power.
-use crate::input::{SCRIPTED, scripted};
+use crate::input::{SCRIPTED, step};
+use crate::recovers::ready;
 use crate::sum::{fold, outcome_code, whole_sum};
 use model::{Answer, FULL_BUDGET, Outcome, Topology};
-use record::StepRead;
 use rules::layout::STORE_CELLS;
 
 #[derive(Clone, Copy)]
@@ -12,39 +12,31 @@ struct Tally {
 }
 
 fn turn(before: Tally, number: u32, script: &[u8], store: &mut [u32]) -> Tally {
-    let first = before.state;
     let mut answer = Answer {
         outcome: Outcome::Done,
         made: 0,
-        state: first,
+        state: before.state,
     };
     let mut sum = before.sum;
-    let mut left = script;
-    while SCRIPTED <= left.len() {
-        let StepRead::Read(step) = scripted(left, number) else {
+    for scripted in script.chunks_exact(SCRIPTED) {
+        let Ok(step) = step(scripted, number) else {
             break;
         };
         answer = engine::step(answer.state, step, store, FULL_BUDGET);
-        let outcome = answer.outcome;
-        sum = fold(fold(sum, outcome_code(outcome)), answer.made);
-        let after = &left[SCRIPTED..];
-        left = after;
+        sum = fold(fold(sum, outcome_code(answer.outcome)), answer.made);
     }
-    let state = answer.state;
-    Tally { sum, state }
+    Tally {
+        sum,
+        state: answer.state,
+    }
 }
 
 pub fn run(topology: Topology, times: u32, script: &[u8]) -> u32 {
     let mut store = [0; STORE_CELLS];
-    let started = engine::initialize(topology, &mut store);
-    let state = started.state;
+    let state = ready(engine::initialize(topology, &mut store));
     let mut now = Tally { sum: 0, state };
-    let mut i: u32 = 0;
-    while i < times {
-        let next = turn(now, i, script, &mut store);
-        now = next;
-        i += 1;
+    for i in 0..times {
+        now = turn(now, i, script, &mut store);
     }
-    let last = now.state;
-    whole_sum(now.sum, last, &store)
+    whole_sum(now.sum, now.state, &store)
 }

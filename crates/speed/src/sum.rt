@@ -1,9 +1,9 @@
 // The checksum: each value is folded in as 31 × sum + value, modulo 2^32.
-use model::{Entry, Outcome, Record, Step};
+use model::{CHANNELS, Channel, Entry, Outcome, Record, State, Step};
 use rules::channel;
 
 pub fn fold(sum: u32, value: u32) -> u32 {
-    std::num::wrapping_add_u32(rules::word::product(sum), value)
+    rules::word::product(sum).wrapping_add(value)
 }
 
 pub fn outcome_code(outcome: Outcome) -> u32 {
@@ -42,7 +42,7 @@ fn entry_sum(sum: u32, e: Entry) -> u32 {
 }
 
 // The body of the entry in a place, 0 where there is none.
-pub fn body_at(c: model::Channel, i: u8) -> u32 {
+pub fn body_at(c: Channel, i: u8) -> u32 {
     if channel::length(c) <= i {
         return 0;
     }
@@ -52,49 +52,28 @@ pub fn body_at(c: model::Channel, i: u8) -> u32 {
     }
 }
 
-fn channel_sum(sum: u32, c: model::Channel) -> u32 {
+fn channel_sum(sum: u32, c: Channel) -> u32 {
     let entries = channel::length(c);
-    let mut r = fold(sum, entries as u32);
-    let mut i: u8 = 0;
-    while i < entries {
+    let mut r = fold(sum, u32::from(entries));
+    for i in 0..entries {
         r = entry_sum(r, channel::entry_at(c, i));
-        i += 1;
     }
     r
 }
 
 pub fn cell_sum(sum: u32, cells: &[u32]) -> u32 {
-    let mut r = sum;
-    let mut i: usize = 0;
-    while i < cells.len() {
-        r = fold(r, cells[i]);
-        i += 1;
-    }
-    r
+    cells.iter().fold(sum, |r, &cell| fold(r, cell))
 }
 
 // The line, the words, the channels and the store.
-pub fn whole_sum(sum: u32, s: model::State, store: &[u32]) -> u32 {
-    let round = s.round;
-    let words = s.words;
-    let places = s.places;
-    let lengths = s.lengths;
-    let mut r = cell_sum(fold(sum, round.line), &words);
-    let mut c: usize = 0;
-    while c < 64 {
-        let here = places[c];
-        r = channel_sum(r, channel::held(here, lengths[c]));
-        c += 1;
+pub fn whole_sum(sum: u32, s: State, store: &[u32]) -> u32 {
+    let mut r = cell_sum(fold(sum, s.round.line), &s.words);
+    for c in 0..CHANNELS {
+        r = channel_sum(r, channel::held(s.places[c], s.lengths[c]));
     }
     cell_sum(r, store)
 }
 
 pub fn byte_sum(sum: u32, bytes: &[u8]) -> u32 {
-    let mut r = sum;
-    let mut i: usize = 0;
-    while i < bytes.len() {
-        r = fold(r, bytes[i] as u32);
-        i += 1;
-    }
-    r
+    bytes.iter().fold(sum, |r, &byte| fold(r, u32::from(byte)))
 }
