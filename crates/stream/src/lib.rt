@@ -21,7 +21,7 @@ pub fn large_buffer() -> [u8; TAKEN_BYTES]
 // Reads until the buffer is full or the input ends, and answers how many bytes it put at the buffer's start. A read
 // that fails, also by a signal, is answered with its error. Open, as std's `Read` leaves them so, are the buffer's
 // bytes past those that were read, and all of them after an error; where a reader's bytes aren't known, so are those
-// that were read.
+// that were read. A loop, and not `read_exact`, which where the input ends too early says nothing of what came before.
 pub fn read_full<R: Read>(reader: &mut R, buffer: &mut [u8]) -> io::Result<usize>
     ensures bound { ReadsAtMost result buffer.new }
     ensures bytes { IfOk result (λ n. IfSome (R.remaining reader.old)
