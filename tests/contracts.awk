@@ -50,8 +50,10 @@ END {
 }
 
 # Whether the line names something of another crate that the slow engine does without: what is left of it without the
-# types of model and the two functions of rules.
+# types of model and the two functions of rules; and, in an attribute of tactics, which is no code, without the lemmas
+# and definitions that it names for the check.
 function names_another(line) {
+    if (line ~ /^#!?\[tactic[(]/) gsub(/(model|account|rules)::(specs|proofs)::[A-Za-z_:]*/, "", line)
     gsub(/((model|account)::[A-Z][A-Za-z]*|crate::[a-z_:]*)/, "", line)
     gsub(/rules::(topology::check[(]|word::enter;)/, "", line)
     if (!match(line, /(rules|model|account|reading|recovery|engine)(::[a-z_:]*| as )/)) return 0
