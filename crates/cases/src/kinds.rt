@@ -4,7 +4,8 @@ use crate::hand::{BODY, idle, in_phase, with_all_set, with_messages};
 use model::{Phase, State};
 use std::io;
 
-// With process 0, channel 1 and the body, whichever of them the kind uses: no record can have all three.
+// With process 0, channel 1 and the body, whichever of them the kind uses: no record can have all three. (A kind is a
+// number here, since numbers that are none are tried.)
 fn kind_gives(state: State, kind: u8, expected: Told) -> bool {
     match record::step_of(kind, 0, 1, BODY) {
         Ok(step) => gives(state, step, expected),

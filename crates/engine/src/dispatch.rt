@@ -28,8 +28,9 @@ fn admit(state: &State, step: Step, cells: usize) -> Result<Subject, Refusal>
     spot::find(&state.topology, step)
 }
 
-// A step's own part, on its spot. (That the store is long enough is asked here and of each step that writes: whoever
-// calls lends any store, so that a type that says it would be made of the slice anew for every call.)
+// A step's own part, on its spot: a match, since each step has fields of its own, and some need no store. (That the
+// store is long enough is asked here and of each step that writes: whoever calls lends any store, so that a type that
+// says it would be made of the slice anew for every call.)
 fn turn(step: Step, s: Spot, store: &mut [u32], budget: u32) -> Result<Turn, Stop>
     requires { Seen step s × (store_cells ≤ length store.old) }
     ensures { Turns s step store.old budget result store.new }

@@ -25,7 +25,7 @@ pub enum Way {
     Downgrade,
 }
 
-// With a plan and a source at hand.
+// With a plan and a source at hand. (A match on the way: migration has a public name for each.)
 fn carried(way: Way, topology: Topology, source: &[u32], target: &mut [u32]) -> Result<(), Refusal>
     ensures { Carries (carry (source_form way) (target_form way) topology source.now
         target.old) result target.new }

@@ -102,6 +102,7 @@ pub fn recover(mut histories: Histories) -> Histories
     ensures { Becomes histories (λ f h. on_recover h) result }
 {
     // A name for the lines, since no proof is made where a field is given another's array straight.
+    // (by name: an array isn't moved from one field to another as it stands)
     let lines = histories.lines;
     histories.counts = lines;
     histories.marks = [None; PROCESSES];

@@ -12,6 +12,7 @@ fn refusal_code(carried: Result<(), Refusal>) -> u32 {
     }
 }
 
+// Up or down, as the input's work says: a flag, of which both ways are called with the same arguments.
 fn carry(up: bool, topology: Topology, source: &[u32], target: &mut [u32]) -> Result<(), Refusal> {
     if up {
         migration::upgrade(topology, source, target)
