@@ -3,7 +3,8 @@
 
 // What a call did, by its answer: its kind, 1 to 9, or 0 where it was not accepted; its process and channel; the body
 // sent or received; whether a marker was received; how many writes it made. (The kind is a number, and no enum: the
-// account's definitions and theorems, from `did` on, are said of document 01's numbers and of 0.)
+// account's definitions and theorems, from `did` on, are said of document 01's numbers and of 0; and `marker` no Option
+// of the body, since `deed_by` has both.)
 #[derive(Clone, Copy)]
 pub struct Deed {
     pub kind: u8,

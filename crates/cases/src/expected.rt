@@ -76,7 +76,7 @@ pub fn refused(number: u8) -> Told {
     }
 }
 
-// What a step tells.
+// What a step tells, case by case.
 fn as_told(outcome: Outcome, made: u32) -> Told {
     let said = match outcome {
         Outcome::Done => Said::Done,

@@ -11,7 +11,8 @@ use std::io;
 use std::io::{Read, Write};
 
 // What is taken of a reader, and printed to a writer. (Four programs have this function. One for all would take the
-// work as a closure, and be public and require that it may call it: no public function here requires anything.)
+// work as a closure, and be public and require that it may call it: no public function here requires anything. By a
+// trait for the work each program would have a type and an impl, for the three lines that it would save.)
 fn answer<R: Read, W: Write>(reader: &mut R, writer: &mut W) -> io::Result<()>
     ensures taken { OnOk result (Takes bytes_taken (R.remaining reader.old) (R.remaining reader.new)) }
     ensures printed { OnOk result (Prints bytes_taken (λ bytes text. text ≡ file bytes) (R.remaining reader.old)

@@ -1,4 +1,5 @@
-// What a turn writes of a round's progress and of the logs' counts: what its spot has, or all of it set back.
+// What a turn writes of a round's progress and of the logs' counts: what its spot has, or all of it set back. (`back`
+// is a flag of the turn's reset, and the promise is said of it: `put_progress`, `put_counts`.)
 ghost use Rattle.std.specs.Prelude.{◌≡◌, ◌<◌};
 ghost use Rattle.model.specs.Topology.{process_limit, channel_limit};
 ghost use Rattle.model.specs.State.{view_progress, view_counts};

@@ -26,8 +26,8 @@ fn carry(carriage: Carriage, source: &[u32], target: &mut [u32]) -> Result<(), R
     Ok(())
 }
 
-// From the old form to the present one: of any topology, any source and any target. (This and downgrade are two, since
-// both are public names.)
+// From the old form to the present one: of any topology, any source and any target. (This and downgrade are two: each
+// only names its forms for `carry`, and one with both forms as arguments is `carry` itself.)
 pub fn upgrade(topology: Topology, source: &[u32], target: &mut [u32]) -> Result<(), Refusal>
     ensures { Carries (carry old present topology source.now target.old)
         result target.new }

@@ -47,7 +47,8 @@ pub enum Entry {
 }
 
 // A channel's 8 places, first in first out from place 0. Kind 0 is a message tagged 0, kind 1 a message tagged 1,
-// and any other kind a marker.
+// and any other kind a marker. (Arrays side by side, here and in the types below: memory is fixed, with no heap, and
+// `view` reads them so.)
 #[derive(Clone, Copy)]
 pub struct Places {
     pub bodies: [u32; PLACES],

@@ -25,7 +25,7 @@ pub enum Way {
     Downgrade,
 }
 
-// With a plan and a source at hand. (A match on the way: migration has a public name for each.)
+// With a plan and a source at hand. (A match: the way picks the definition's forms, `source_form` and `target_form`.)
 fn carried(way: Way, topology: Topology, source: &[u32], target: &mut [u32]) -> Result<(), Refusal>
     ensures { Carries (carry (source_form way) (target_form way) topology source.now
         target.old) result target.new }
@@ -74,7 +74,7 @@ pub fn show(way: Way, bytes: &[u8], out: &mut [u8]) -> Result<usize, Refused>
     Ok(report::cells::changed(&shown, out, at))
 }
 
-// How many cells the target's form has.
+// How many cells the target's form has: a match, as the way picks the form.
 fn target_cells(way: Way) -> usize
     ensures { result ≡ store_cells (target_form way) }
 {

@@ -1,4 +1,4 @@
-// The cells of a store as bytes, 4 each, lowest first.
+// The cells of a store as bytes, 4 each, lowest first. (Buffer and position stay two, as in `report`.)
 ghost use Rattle.std.specs.Prelude.{◌≡◌, ◌*◌, ◌/◌, ◌≤◌, length, take};
 ghost use Rattle.report.specs.Appends.{Appends};
 ghost use Rattle.operator.specs.Carrying.{cells_in};

@@ -138,8 +138,8 @@ fn filed(input: &[u8], out: &mut [u8]) -> Result<usize, Refused>
     }
 }
 
-// What `converter` prints for an input, and how many bytes that is. (It ends as `console` does: both are public, and
-// each promises a text of its own.)
+// What `converter` prints for an input, and how many bytes that is. (It ends as `console` does, in four lines; each
+// promises a text of its own, `file` and `Tells`.)
 pub fn convert(input: &[u8], out: &mut [u8; FILE_BYTES]) -> usize
     ensures { WholeText (file input.now) out.old out.new result }
 {

@@ -9,7 +9,8 @@ use model::{LISTED, Record, Refusal};
 const PLACES: usize = LISTED + 1;
 
 // The list that bytes hold, as far as there are places: so many calls. (An array with a count, since memory is fixed.)
-// And whether the bytes after its calls end, or aren't a record.
+// And whether the bytes after its calls end, or aren't a record. (No Result of all: question 4 answers the calls before
+// the break too.)
 #[derive(Clone, Copy)]
 pub struct ListRead {
     pub calls: [Record; PLACES],

@@ -1,4 +1,5 @@
-// The lines of a part: each kept call with its bytes and its number in the list.
+// The lines of a part: each kept call with its bytes and its number in the list. (Buffer and position stay two, as in
+// `report`.)
 ghost use Rattle.std.specs.Prelude.{◌≡◌, ◌<◌, get_or};
 ghost use Rattle.model.specs.declared.Record.TheVariants.{Recover};
 ghost use Rattle.model.specs.Outcome.{refusal_number};
@@ -47,6 +48,7 @@ pub fn part(list: &[Record], found: &Reduced, out: &mut [u8], at: usize) -> usiz
         (part_text (λ i. get_or list.now i Recover) (kept found.now.part) found.now.rooms
         (refusal_number found.now.refusal)) out.new result }
 {
+    // (a name, since it stands in four places)
     let places = found.part.places;
     let end = found.part.count as usize - 1;
     let mut next = at;

@@ -15,7 +15,7 @@ use crate::{list, planned};
 use model::{Outcome, Refusal};
 use slow::{CallAnswer, CallOutcome};
 
-// A call's line.
+// A call's line, by either kind of answer. (Buffer and position stay two, as in `report`.)
 fn line(out: &mut [u8], at: usize, number: u32, answer: CallAnswer) -> usize
     ensures { Appends line_bytes out.old at (answer_line number answer) out.new result }
 {

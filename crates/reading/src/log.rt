@@ -20,7 +20,8 @@ pub fn line(store: &[u32]) -> u32
     store.get(layout::LINE_CELL).copied().unwrap_or(0)
 }
 
-// The receipt in the entry of a message log that begins in the cell at, in the present form: body, then channel.
+// The receipt in the entry of a message log that begins in the cell at, in the present form: body, then channel. (Store
+// and cell stay two in this file: the promises are said of the store and of where a thing begins in it.)
 #[tactic(auto, unfolding(model::specs::Form::cell, model::specs::Form::cells_from))]
 fn receipt(store: &[u32], at: usize) -> Receipt
     requires { at + message_entry_cells ≤ length store.now }

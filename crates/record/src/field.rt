@@ -17,7 +17,8 @@ pub const BODY: u8 = 8;
 pub const MAPS: u8 = 2 * BODY;
 
 // The process or the channel, and the bytes after it. A present field may not be 0. (`body` isn't the same function for
-// another size: that would be a loop over the bytes, for a fact that the definitions have for 1 byte and for 4.)
+// another size: that would be a loop over the bytes, for a fact that the definitions have for 1 byte and for 4.
+// `present` is a flag, as `read_field` of the definitions has it.)
 pub fn byte(bytes: &[u8], present: bool) -> Option<(u8, &[u8])>
     ensures { reading_of result ≡ read_field present read_byte bytes.now }
 {

@@ -1,5 +1,6 @@
 // The table of kinds: the step that each is, and which fields a record of it may carry. A kind is a number here, and no
-// enum: this is the table that makes it a step, and an enum of the nine kinds would be a second one before it.
+// enum: this is the table that makes it a step, and an enum of the nine kinds would be a second one before it. Kind,
+// process, channel and body come one by one, as they are read: a struct of the four would be made for one call.
 ghost use Rattle.std.specs.Prelude.{◌≡◌};
 ghost use Rattle.model.specs.Record.{record_of};
 ghost use Rattle.record.specs.StepRead.{step_said, step_in, step_of};

@@ -50,7 +50,7 @@ pub fn rest(bytes: &[u8]) -> &[u8]
     parse(bytes).map_or(bytes, |(_, rest)| rest)
 }
 
-// A record's bytes. They read back as that record, with nothing left.
+// A record's bytes. They read back as that record, with nothing left. (A match: each step has fields of its own.)
 #[tactic(auto, unfolding(crate::specs::Written::written, model::specs::Record::write_record, model::specs::Record::fields_of,),)]
 pub fn write(r: Record) -> Written
     ensures value { result ≡ written r }

@@ -1,4 +1,5 @@
 // The bytes of a record: the bit map, the kind, and the fields that are not 0. No kind uses both process and channel.
+// (Kinds stay numbers, and the fields apart, as in kind.rt.)
 #![tactic(auto, unfolding(model::specs::Record::write_fields, model::specs::Record::map_of, model::specs::Record::bit, model::specs::Record::absent, model::specs::Record::body_bytes, model::specs::Record::field_bytes, crate::specs::Written::holding,),)]
 
 ghost use Rattle.std.specs.Prelude.{◌≡◌};

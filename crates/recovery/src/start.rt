@@ -23,6 +23,7 @@ struct Filled {
 fn idle(topology: Topology, line: u32, words: [u32; PROCESSES], filled: Filled) -> State
     ensures { view result ≡ idle_state topology line (words_seen words) (channels_seen filled) }
 {
+    // (by names: an array isn't moved from a field into a literal)
     let Filled { places, lengths } = filled;
     State {
         topology,

@@ -15,7 +15,7 @@ pub use part::{Part, nth_call};
 
 // What is found: the place of the list's first refused call, counted from 0, and its refusal; a smallest part that
 // fails so; and how much room each call of the part said is left: 0 for one that is no send, for the last one, and in
-// the places after.
+// the places after. (Two arrays side by side, with no heap, as `Reduces` says of each.)
 #[derive(Clone, Copy)]
 pub struct Reduced {
     pub place: u16,

@@ -28,7 +28,8 @@ pub struct Replayed {
     pub rooms: [u8; LISTED],
 }
 
-// How much room a step's outcome says is left, which is 0 of one that is no send; or its refusal.
+// How much room a step's outcome says is left, which is 0 of one that is no send; or its refusal: a match on the three
+// kinds of outcome that there are for this.
 #[tactic(auto, unfolding(model::specs::Outcome::refused_with, model::specs::Outcome::refusal_of))]
 fn room(outcome: Outcome) -> Result<u8, Refusal>
     ensures { Says (said_by outcome) result }

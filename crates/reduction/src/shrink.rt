@@ -48,8 +48,9 @@ impl Search<'_> {
         part
     }
 
-    // One pass over blocks of this size; the last call stays. (A `while`: a `for` over `0..(n - 1).div_ceil(size)` would
-    // count the blocks only to work their ends out again.)
+    // One pass over blocks of this size; the last call stays. (A `while`: a `for` over `0..(n - 1).div_ceil(size)`
+    // would count the blocks only to work their ends out again. `Failing`, here and below, relates the search and a
+    // part, and is no fact of either.)
     fn pass(&self, whole: Part, size: u16) -> Part
         requires { Failing self.now whole × (1 ≤ size) }
         ensures { Passed self.now whole size result }

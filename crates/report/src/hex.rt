@@ -12,7 +12,7 @@ use crate::{decimal, named};
 use model::Refusal;
 use rules::refusal::number;
 
-// The character of a hexadecimal digit.
+// The character of a hexadecimal digit. (By hand, as every line here is put together: lib.rt says why.)
 #[tactic(auto, unfolding(crate::specs::Hex::hex_digit))]
 fn hex_digit(d: u8) -> u8
     requires { d < 16 }

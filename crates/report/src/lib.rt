@@ -93,7 +93,7 @@ fn named(out: &mut [u8], at: usize, name: &[u8], numbers: &[u32]) -> usize
     bytes(out, next, b"\n")
 }
 
-// A step's outcome, with its value if it has one.
+// A step's outcome, with its value if it has one: a match, since each case has a word of its own.
 fn said(out: &mut [u8], at: usize, outcome: Outcome) -> usize
     ensures { Appends said_bytes out.old at (said_text (said_by outcome)) out.new result }
 {
@@ -168,7 +168,7 @@ pub fn cell_line(out: &mut [u8], at: usize, i: u32, v: u32) -> usize
     named(out, at, b"cell", &[i, v])
 }
 
-// How many messages a channel holds.
+// How many messages a channel holds. (`n` counts them, and no index: there is no slice of entries to filter.)
 fn messages(c: Channel) -> u32
     ensures { result ≡ length (bodies (entries c)) }
 {

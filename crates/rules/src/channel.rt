@@ -41,7 +41,8 @@ pub fn empty() -> Channel
 }
 
 // The channel that places hold, of which so many are used; and a channel's places, and how many it uses. (`used` speaks
-// of what a State stores, `length` of the entries: their callers need the one or the other.)
+// of what a State stores, `length` of the entries: their callers need the one or the other. Arrays go by names here:
+// none is moved from a field into a literal.)
 pub fn held(places: Places, count: u8) -> Channel
     ensures { result ≡ held places count }
 {

@@ -12,6 +12,7 @@ use model::{Outcome, Record, Refusal, State, Topology};
 
 // Where a session stands: the number of its next line, where that goes, and the state that its request is served in.
 // Store and buffer are lent beside it: a struct that held the two would have each method promise that it keeps both.
+// (That its number is at most the input's bytes is no ghost field: after the last request it is one more.)
 #[derive(Clone, Copy)]
 pub struct Cursor {
     pub number: u32,
@@ -73,6 +74,7 @@ fn serve(
 }
 
 // All requests that the bytes hold, in order. A 7 ends the reading after its line, the end of the bytes without one.
+// (How many bytes there are is required of the slice, as `plan::taken` leaves it.)
 pub fn requests(
     source: BudgetSource,
     topology: Topology,

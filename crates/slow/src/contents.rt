@@ -1,4 +1,5 @@
-// What the histories tell of a process and of a channel: its word, and the messages under way.
+// What the histories tell of a process and of a channel: its word, and the messages under way. (Kinds stay numbers, and
+// a flag says whether a word is entered or an entry pushed, as `filled` and `cond` of the definitions have it.)
 ghost use Rattle.std.specs.Prelude.{◌≡◌, cond, [], ◌∷◌, ◌++◌, ◌<◌, ◌≤◌, ◌+◌, ◌-◌, length};
 ghost use Rattle.model.specs.Channel.{entries, entry_of};
 ghost use Rattle.model.specs.Word as words;
@@ -77,7 +78,8 @@ fn push(mut c: Channel, yes: bool, kind: u8, body: u32) -> Channel
     c
 }
 
-// The sends on a channel in its sender's history, from one to before another, pushed onto it.
+// The sends on a channel in its sender's history, from one to before another, pushed onto it. (`seen` counts the sends,
+// and no index.)
 fn fill(
     first: Channel,
     past: Past,

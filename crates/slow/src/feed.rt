@@ -59,7 +59,7 @@ fn receive(topology: Topology, past: Past, histories: Histories, i: u8) -> Histo
     histories::add(now, p, i)
 }
 
-// A deed.
+// A deed: a match on its kind, as `on_deed` has it.
 fn deed(topology: Topology, past: Past, histories: Histories, i: u8) -> Histories
     requires { MayFeed topology past histories i }
     ensures { Follows past histories (on_deed topology (deed_at past i)) result }

@@ -58,7 +58,7 @@ pub fn mark(mut histories: Histories, p: u8) -> Histories
     histories
 }
 
-// Process p is marked, if it is to be and has no mark.
+// Process p is marked, if it is to be and has no mark. (A flag, as `mark_if` of specs/Seen has it.)
 pub fn mark_unmarked(histories: Histories, p: u8, yes: bool) -> Histories
     requires { p < 16 }
     ensures { Becomes histories (λ f h. mark_if yes p h) result × (result.counts ≡ histories.counts) }

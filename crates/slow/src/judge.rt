@@ -1,6 +1,6 @@
 // What the next call is answered in a state, with full current: the condition of each refusal, in document 01's order,
 // then what the step says and how many writes it makes. A call is a deed that isn't answered yet. Nothing is changed
-// here.
+// here. (State and call stay two, as the account's definitions take them.)
 ghost use Rattle.std.specs.Prelude.{◌≡◌, ◌-◌, ◌+◌};
 ghost use Rattle.model.specs.Outcome.{refusal_of, said_by};
 ghost use Rattle.model.specs.State.{view};

@@ -29,7 +29,8 @@ ghost use Rattle.slow.specs.SoFar.{Answered, AnsweredSoFar, Says, world_at, repl
 
 use model::{LISTED, Outcome, Record, Refusal, State, Topology};
 
-// What a call of a list is answered: a step's outcome, or the line of a recover, and how many writes it made.
+// What a call of a list is answered: a step's outcome, or the line of a recover, and how many writes it made. (No
+// Result: both are answers, and `call_said` has a case for each.)
 #[derive(Clone, Copy)]
 pub enum CallOutcome {
     Step(Outcome),

@@ -60,6 +60,7 @@ pub fn full(logs: NeededLogs, entries: u8, messages: u8) -> bool
     logs.channel && 8 <= entries || logs.message && 64 <= messages
 }
 
+// (A flag, as `cond` of the definition has it.)
 fn cells(needed: bool, n: u32) -> u32
     ensures { result ≡ cond needed n 0 }
 {

@@ -92,7 +92,7 @@ fn commit_now(s: State) -> bool
     is_logical(s.round.phase) && all_ready(s) && all_closed(s)
 }
 
-// "not now, by the conditions above"
+// "not now, by the conditions above": a match on the kind, as `not_now` has it
 #[tactic(auto, unfolding(account::specs::Judging::not_now, model::specs::State::view))]
 pub fn refuses(s: State, call: Deed) -> bool
     ensures { result ≡ not_now (view s) (asked call) }

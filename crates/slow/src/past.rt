@@ -1,4 +1,5 @@
-// What the calls so far did, by their answers, in their order.
+// What the calls so far did, by their answers, in their order. (Kinds stay numbers: judge.rt says why. A call, a step
+// and an outcome are told case by case, as `fields_of` and `heard` of the definitions have them.)
 ghost use Rattle.std.specs.Prelude.{◌≡◌, cond, ◌≤◌, length};
 ghost use Rattle.model.specs.declared.Record.TheVariants as records;
 ghost use Rattle.model.specs.Outcome.{said_by};
@@ -93,6 +94,7 @@ fn done(content: Record, answer: CallAnswer) -> Deed
     ensures { result ≡ deed_by (fields_of content) (heard (call_said answer.outcome)) answer.made }
 {
     let asked = call(content);
+    // (a name, since it stands in both cases)
     let made = answer.made;
     match answer.outcome {
         CallOutcome::Step(said) => Deed {

@@ -1,4 +1,4 @@
-// The round, as the past tells it.
+// The round, as the past tells it. (A match on a deed's kind has the cases that the account's definitions have.)
 ghost use Rattle.std.specs.Prelude.{◌≡◌, cond, not, ◌+◌};
 ghost use Rattle.model.specs.Topology.{is_late};
 ghost use Rattle.account.specs.Round.{copying_from, phase_after, turned_after, line_of, phase_of, turned};

@@ -41,6 +41,7 @@ fn held(topology: Topology, past: Past, histories: Histories, t: bool, c: u8) ->
     contents::channel(topology, past, histories, t, marker, c)
 }
 
+// (By names: an array isn't moved from a field into a literal.)
 fn places(held: Channel) -> Places
     ensures { result ≡ places_of held }
 {

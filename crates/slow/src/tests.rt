@@ -1,4 +1,4 @@
-// Tests of one deed.
+// Tests of one deed. (Kinds stay numbers: judge.rt says why.)
 ghost use Rattle.std.specs.Prelude.{◌≡◌, ◌&&◌, ◌||◌, cond, ◌+◌, ◌<◌};
 ghost use Rattle.account.specs.Deeds.{did, on_channel, ends};
 ghost use Rattle.account.specs.Round.{starts_or_ends};

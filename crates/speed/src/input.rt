@@ -20,7 +20,7 @@ pub fn number(bytes: &[u8], at: usize) -> u32 {
     u32::from_le_bytes([bytes[at], bytes[at + 1], bytes[at + 2], bytes[at + 3]])
 }
 
-// As many cells as the store has, 4 bytes each.
+// As many cells as the store has, 4 bytes each. (`at` goes on by itself, and wraps, as `number` takes any.)
 pub fn cells(store: &mut [u32], bytes: &[u8]) {
     let mut at: usize = 0;
     for cell in store {

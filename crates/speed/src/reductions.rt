@@ -36,6 +36,7 @@ fn reduced_sum(sum: u32, answer: Result<Reduced, Refusal>) -> u32 {
     match answer {
         Ok(reduced) => {
             let found = fold(fold(sum, u32::from(reduced.place)), number(reduced.refusal));
+            // (a name, since two of its fields are read)
             let part = reduced.part;
             let counted = fold(found, u32::from(part.count));
             byte_sum(byte_sum(counted, &part.places), &reduced.rooms)

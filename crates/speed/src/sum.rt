@@ -1,4 +1,5 @@
-// The checksum: each value is folded in as 31 × sum + value, modulo 2^32.
+// The checksum: each value is folded in as 31 × sum + value, modulo 2^32. (Of an outcome and of a step each case has a
+// value of its own, so that it is a match.)
 use model::{CHANNELS, Channel, Entry, Outcome, Record, State, Step};
 use rules::channel;
 

@@ -3,7 +3,7 @@ use crate::input::{SCRIPTED, byte, narrowed, step};
 use crate::sum::{byte_sum, fold};
 use model::Record;
 
-// The bytes into the buffer, from a position on, as far as it goes.
+// The bytes into the buffer, from a position on, as far as it goes. (The two stay apart, as in `report`.)
 fn put(out: &mut [u8], at: usize, bytes: [u8; 7]) {
     if out.len() < 7 || out.len() - 7 < at {
         return;
