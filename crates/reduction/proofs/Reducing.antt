@@ -1,7 +1,7 @@
 -- Laws of the whole answer: each refusal in its order, and a part.
 use Rattle.std.proofs.Common.{◌≡◌, ℕ, ◌<◌, ◌≤◌, List, length, leb, sym, arith}
 use Rattle.std.specs.Prelude.{Ok, Err}
-use mathlib.Core.Option.{none, some, or_else}
+use mathlib.Core.Option.{Option, none, some, or_else}
 use borrow.Author.Tests.{lt-ltb, le-ltb, leb-true, leb-false}
 use Rattle.model.specs.declared.Topology.{Topology}
 use Rattle.model.specs.declared.Record.{Record}
@@ -39,7 +39,16 @@ module _ (T : Topology) (calls : List Record) where
     unfolding sought sought_by list_refusal or_else first_refusal
     sought_failure e f = rw (le-ltb list_limit (length calls) few, e, f)
 
-  -- a list with a failure isn't too long
+  -- what is found is the list's first failure, and the list isn't too long
+  pub found_first : {f : Failure} → sought T calls ≡ finds f → first_failure T calls ≡ some f
+  unfolding sought sought_by
+  found_first {f} e = go (list_refusal T calls) (first_failure T calls) e
+    where
+      go : (x : Option ℕ) (y : Option Failure) → sought_by x y ≡ finds f → y ≡ some f
+      go (some n) y q = cc
+      go none none q = cc
+      go none (some g) q = cc
+
   pub found_few : {f : Failure} → sought T calls ≡ finds f → length calls ≤ list_limit
   found_few {f} e = go (test (leb (length calls) list_limit))
     where

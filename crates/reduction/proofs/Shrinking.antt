@@ -1,15 +1,20 @@
--- Laws of parts that fail: what a replay tells of a part, and a part without a block.
-use Rattle.std.proofs.Common.{◌≡◌, ℕ, ◌+◌, ◌-◌, ◌<◌, ◌≤◌, Bool, true, false, List, length, get_or, eqb}
+-- Laws of parts that fail: a part of the list, what a replay tells of it, and a part without a block.
+use Rattle.std.proofs.Common.{◌≡◌, ℕ, suc, ◌+◌, ◌-◌, ◌<◌, ◌≤◌, Bool, true, false, List, [], ◌∷◌, map, length, get_or, eqb}
 use Rattle.std.proofs.Common.{refl, sym, ap, ◌∙◌, arith, rules}
 use mathlib.Core.Option.{Option, none, some}
 use borrow.Author.Tests.{eqb-true, eq-eqb, ne_eqb}
 use denote.Enum.Bare.{sameb, same_true, same_false}
+use Rattle.std.proofs.lemmas.List.{get_or_default}
+use Rattle.model.specs.declared.Record.{Record}
+use Rattle.model.specs.declared.Record.TheVariants.{Call, Recover}
+use Rattle.model.specs.declared.Step.TheVariants.{Send}
 use Rattle.model.specs.declared.Refusal.{Refusal}
 use Rattle.model.specs.contracts.Refusal.{the_type}
-use Rattle.model.specs.CallList.{Failure, first_failure}
+use Rattle.model.specs.CallList.{call_at, Failure, first_failure}
 use Rattle.model.specs.Outcome.{refusal_number}
-use Rattle.model.specs.Reduction.{calls_at}
+use Rattle.model.specs.Reduction.{calls_at, Rising}
 use Rattle.model.proofs.laws.Tests.{Tested, test, holds, fails, true_is_not_false, and_left, and_right, and_both}
+use Rattle.model.proofs.laws.Functions.{Indices, same, other, indices}
 use Rattle.model.proofs.ToldApart.{told_apart}
 use Rattle.reduction.specs.declared.part.Part.{Part}
 use Rattle.reduction.specs.declared.search.Search.{Search}
@@ -18,6 +23,24 @@ use Rattle.reduction.specs.Replays.{failure_of, ends_with}
 use Rattle.reduction.specs.Passes.{FailsAs, Failing}
 use Rattle.reduction.proofs.Parts.{kept_holding, kept_length, held_holding, without_length, without_rising}
 use Rattle.reduction.proofs.Parts.{without_last}
+
+-- places that rise up to one below n are all below n
+pub below : (n : ℕ) (xs : List ℕ) → Rising xs → get_or xs (length xs - 1) 0 < n
+    → (i : ℕ) → i < length xs → get_or xs i 0 < n
+below n xs rising last i l = go (indices i (length xs - 1))
+  where
+    go : Indices i (length xs - 1) → get_or xs i 0 < n
+    go (same e) = rw e last
+    go (other e) = omega (arith, last, rising i (length xs - 1) (omega (arith, e)) (omega arith))
+
+-- the calls at such places, as the list holds them and as a part takes them
+pub calls_at_lem : (list : List Record) (xs : List ℕ) → ((i : ℕ) → i < length xs → get_or xs i 0 < length list)
+    → map (call_at list) xs ≡ calls_at list xs
+calls_at_lem list [] h = refl
+calls_at_lem list (x ∷ xs) h =
+    let here : get_or list x Recover ≡ call_at list x =
+    get_or_default list x Recover (Call (Send 0 0)) (h 0 (omega arith)) in
+    rw (here, calls_at_lem list xs (λ i l. h (suc i) (omega arith)))
 
 -- refusals are the same where their numbers are
 pub same_number : (a b : Refusal) → sameb the_type a b ≡ eqb (refusal_number a) (refusal_number b)
@@ -63,14 +86,14 @@ module _ {s : Search} {part : Part} (p : Failing s part) {from to : ℕ} (h : fr
   rest_last = without_last (kept part) from to h inside (rw (kept_length p.held) k) ∙ p.fails.last
 
   module _ {q : Part} (e : q ≡ part_of rest) where
-    same : kept q ≡ rest
-    same = rw e (kept_holding rest)
+    rest_kept : kept q ≡ rest
+    rest_kept = rw e (kept_holding rest)
 
     pub fewer_held : Held q
     fewer_held = rw e (held_holding rest (rw rest_length (omega (arith, p.held.within))))
 
     pub fewer_count : q.count ≡ part.count - (to - from)
-    fewer_count = sym (kept_length fewer_held) ∙ rw same rest_length
+    fewer_count = sym (kept_length fewer_held) ∙ rw rest_kept rest_length
 
     module _ {t : Bool} (tested : t ≡ ends_with (first_failure s.topology (calls_at s.list.now (kept q))) q.count
         (refusal_number s.first.refusal)) where
@@ -80,8 +103,8 @@ module _ {s : Search} {part : Part} (p : Failing s part) {from to : ℕ} (h : fr
           record {
             held = fewer_held;
             fails = record {
-              rising = rw same (without_rising (kept part) from to h inside p.fails.rising);
-              last = rw same rest_last;
+              rising = rw rest_kept (without_rising (kept part) from to h inside p.fails.rising);
+              last = rw rest_kept rest_last;
               failure = rw (kept_length fewer_held) found;
             };
           }
@@ -89,4 +112,4 @@ module _ {s : Search} {part : Part} (p : Failing s part) {from to : ℕ} (h : fr
       pub fewer_lost : t ≡ false → FailsAs s rest → ⊥
       fewer_lost y all =
           test_fails _ _ _ (rw fewer_count (omega arith)) (sym tested ∙ y)
-          (rw (same, fewer_count) (rw rest_length at all.failure))
+          (rw (rest_kept, fewer_count) (rw rest_length at all.failure))
