@@ -6,6 +6,7 @@ use Rattle.model.specs.declared.State.{State}
 use Rattle.model.specs.declared.Step.{Step}
 use Rattle.model.specs.declared.Answer.{Answer}
 use Rattle.model.specs.declared.Refusal.{Refusal}
+use Rattle.model.specs.Outcome.{refusal_of}
 use Rattle.model.specs.State.{view}
 use Rattle.model.specs.Start.{Startup, initialize, recover, recover_said}
 use Rattle.model.specs.Start as start
@@ -19,7 +20,7 @@ use Rattle.model.proofs.Demand3.{demand_3}
 use Rattle.model.proofs.Reached.{reached}
 use Rattle.engine.specs.Answers.{Answers}
 use Rattle.recovery.specs.Starts.{startup_of, Starts}
-use Rattle.engine.specs.Runs.{Runs, initialized, stepped, recovered, step_reply, recover_reply, recovered_or}
+use Rattle.engine.specs.Runs.{Runs, initialized, stepped, recovered, step_reply, recover_reply, given_or}
 use Rattle.engine.specs.Runs.{Demand3OfCode, CompanionOfCode}
 
 -- the same world, reached by calls of the definitions
@@ -74,8 +75,9 @@ module _ (T : Topology) where
 
     after_recover : (r : Result State Refusal) → Starts (recover T store) r store
         → let reply = recover_reply r store in
-        Replayed T (world_of (recovered_or r s) store (on_reply T reply h) (commits_after reply commits))
-    unfolding next reply_to state_after store_after recover_said start.state_or
+        Replayed T (world_of (start.state_or (refusal_of r) (given_or r s) s) store (on_reply T reply h)
+        (commits_after reply commits))
+    unfolding next reply_to state_after store_after recover_said start.state_or refusal_of
     after_recover (Ok given) meets =
         subst (Replayed T) (rw ((recovers i).accepted, ← meets.state, ← meets.store)) (more i recovery)
     after_recover (Err r) meets = absurd (cc (meets.start ∙ (recovers i).accepted))
