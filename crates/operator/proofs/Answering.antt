@@ -117,11 +117,13 @@ module _ (bytes : List ℕ) where
       answers_refused e = answered e
 
       -- a part that was found
-      pub answers_part : {found : Reduced} → Reduces T (held x) (Ok found) → {own before middle after : List ℕ} {at r : ℕ}
+      pub answers_part : {found : Reduced} → Reduces T (held x) (Ok found)
+          → {own before middle after : List ℕ} {at r : ℕ}
           → own ≡ take (plan_length bytes) bytes
           → Appends (plan_line_bytes (length own)) before 0 (plan_line_text own) middle at
           → Appends part_bytes middle at
-          (part_text (λ i. get_or (held x) i Recover) (kept found.part) found.rooms (refusal_number found.refusal)) after r
+          (part_text (λ i. get_or (held x) i Recover) (kept found.part) found.rooms (refusal_number found.refusal))
+          after r
           → PrintsAnswer (reduction bytes) before after r
       unfolding sought_answer answer_text
       answers_part {found} m {own} {before} {middle} {after} {at} {r} o p q =

@@ -42,7 +42,8 @@ module _ (r : Result Topology Refusal) (bytes : List ℕ) (says : plan_said r �
       }
 
 -- the reader's two checks: what is said where the second refuses, and where both pass
-module _ {A : Type 0} (bytes : List ℕ) (shape : Result A Refusal) (by_shape : refusal_of shape ≡ shape_refusal bytes) where
+module _ {A : Type 0} (bytes : List ℕ) (shape : Result A Refusal)
+    (by_shape : refusal_of shape ≡ shape_refusal bytes) where
   pub shaped : {x : A} → shape ≡ Ok x → shape_refusal bytes ≡ none
   unfolding refusal_of
   shaped is = sym by_shape ∙ ap refusal_of is

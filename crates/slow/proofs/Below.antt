@@ -16,7 +16,8 @@ one_more : (test : ℕ → Bool) (n a : ℕ)
 one_more test zero a = let e : a ≡ a + 0 = omega arith in and_last (test a) ∙ ap test e
 one_more test (suc n) a =
     let e : a + 1 + n ≡ a + suc n = omega arith in
-    ap (λ (t : Bool). test a && t) (one_more test n (a + 1) ∙ ap (λ (k : ℕ). list_all test (range_with_len (a + 1) n) && test k) e)
+    ap (λ (t : Bool). test a && t)
+    (one_more test n (a + 1) ∙ ap (λ (k : ℕ). list_all test (range_with_len (a + 1) n) && test k) e)
     ∙ and_assoc (test a) (list_all test (range_with_len (a + 1) n)) (test (a + suc n))
 
 pub all_is : (test : ℕ → Bool) (n : ℕ) → list_all test (range_with_len 0 n) ≡ all_below n test

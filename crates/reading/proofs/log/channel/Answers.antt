@@ -56,7 +56,8 @@ loop-i-preserved c =
     record {
       room = simp length-set l.invariant.room;
       filled =
-          filled_more (λ x. x) l.bodies 0 (body l.i) l.i body 0 (omega (arith, l.invariant.room)) l.invariant.filled refl;
+          filled_more (λ x. x) l.bodies 0 (body l.i) l.i body 0 (omega (arith, l.invariant.room))
+          l.invariant.filled refl;
     }
 
 pub returns : goal.returns
