@@ -11,12 +11,12 @@ use borrow.Author.Tests.{leb-true, leb-false}
 use Rattle.model.proofs.laws.Tests.{Tested, test, holds, fails}
 use Rattle.model.specs.declared.Record.{Record}
 use Rattle.model.specs.declared.Refusal.{Refusal}
+use Rattle.model.specs.declared.Refusal.TheVariants.{Malformed}
 use Rattle.model.specs.Outcome.{refusal_number, refusal_of}
-use Rattle.model.specs.Record.{AreBytes, and_then, Reading, read_record}
+use Rattle.model.specs.Record.{AreBytes, and_then, read_record}
 use Rattle.model.specs.Program.{Request, full, full_budget, Readings, read_budget, read_request, reading_then, read_all}
 use Rattle.model.specs.CallList.{list_limit}
 use Rattle.model.proofs.Readings.{After, request_after, fewer, bytes_after, fuel}
-use Rattle.record.specs.RecordRead.{refuses, record_in}
 use Rattle.operator.specs.declared.list.ListRead.{ListRead}
 use Rattle.operator.specs.Lists.{read_calls, calls_in, broken_off, held, end_refusal, ReadsList}
 
@@ -69,12 +69,6 @@ more (b ∷ bytes) h r after e =
       reading_then,
       fuel full (length bytes) (length after) after (bytes_after a h) (omega (arith, fewer a)) (omega arith),
     )
-
--- what breaks off is refused with 7
-pub broken_number : (x : Reading Record) {n : ℕ} → record_in x ≡ refuses n → n ≡ 7
-unfolding record_in
-broken_number none e = cc
-broken_number (some r) e = cc
 
 -- the first n of the first n of some and of others are the first n of both
 take_both : (n : ℕ) (xs ys : List Record) → take n (take n xs ++ ys) ≡ take n (xs ++ ys)
@@ -138,12 +132,10 @@ module _ {all : List ℕ} {list : ListRead} {left : List ℕ} (p : Listing all l
       let read = whole false (ended left l) (Ok tt) refl in
       record { end = rw p.end read.end; within = read.within; calls = read.calls }
 
-  pub list_breaks : 0 < length left → {r : Refusal} → record_in (read_record left) ≡ refuses (refusal_number r)
-      → read_record left ≡ none
-      → ReadsList all (record { calls = list.calls; count = list.count; end = Err r })
+  pub list_breaks : 0 < length left → read_record left ≡ none
+      → ReadsList all (record { calls = list.calls; count = list.count; end = Err Malformed })
   unfolding refusal_of
-  list_breaks l {r} said none_read =
-      whole true (broken left l none_read) (Err r) (ap some (broken_number (read_record left) said))
+  list_breaks l e = whole true (broken left l e) (Err Malformed) refl
 
   pub list_goes_on : {r : ListRead} (call : Record) (after : List ℕ) → read_record left ≡ some (call, after)
       → held r ≡ take (list_limit + 1) (held list ++ (call ∷ [])) → r.count ≤ list_limit + 1 → r.end ≡ list.end

@@ -32,7 +32,7 @@ fn add(list: &mut ListRead, call: Record)
 }
 
 // All records that the bytes hold, in order. A 7 ends the reading, and so does the end of the bytes. (A `while`: how
-// many records there are isn't known.)
+// many records there are isn't known. No `match`: a reading is taken apart with `let .. else`, as in `session`.)
 pub fn read(bytes: &[u8]) -> ListRead
     ensures { ReadsList bytes.now result }
 {
@@ -43,13 +43,11 @@ pub fn read(bytes: &[u8]) -> ListRead
     };
     let mut left = bytes;
     while !left.is_empty() {
-        match record::read(left) {
-            Ok(call) => add(&mut list, call),
-            Err(r) => {
-                list.end = Err(r);
-                return list;
-            }
-        }
+        let Ok(call) = record::read(left) else {
+            list.end = Err(Refusal::Malformed);
+            break;
+        };
+        add(&mut list, call);
         left = record::rest(left);
     }
     list

@@ -1,12 +1,10 @@
 -- Laws of reading a request: no budget, no record after it, or both.
-use Rattle.std.proofs.Common.{◌≡◌, ℕ, List, Result, Ok, Err, Some, None, sym}
-use Rattle.std.specs.Result.{result_ok}
+use Rattle.std.proofs.Common.{◌≡◌, ℕ, List, sym}
 use Rattle.std.proofs.Math.Option.{none, some}
 use Rattle.model.specs.declared.Record.{Record}
-use Rattle.model.specs.declared.Refusal.{Refusal}
 use Rattle.model.specs.Record.{and_then, read_record}
 use Rattle.model.specs.Program.{BudgetSource, read_budget, read_request}
-use Rattle.record.specs.RecordRead.{record_said, record_in, remaining}
+use Rattle.record.specs.RecordRead.{record_is, refuses, record_in, remaining}
 use Rattle.record.proofs.Answered.{no_record, a_record}
 
 module _ (source : BudgetSource) (bytes : List ℕ) where
@@ -15,16 +13,12 @@ module _ (source : BudgetSource) (bytes : List ℕ) where
   no_budget e = rw (← e)
 
   module _ {content : List ℕ} {b : ℕ} (lasts : some (b, content) ≡ read_budget source bytes) where
-    pub no_content : (x : Result Record Refusal) → None ≡ result_ok x → record_said x ≡ record_in (read_record content)
-        → none ≡ read_request source bytes
+    pub no_content : {n : ℕ} → refuses n ≡ record_in (read_record content) → none ≡ read_request source bytes
     unfolding read_request and_then
-    no_content (Ok r) k e = cc
-    no_content (Err x) k e = rw (← lasts, no_record (read_record content) (sym e))
+    no_content e = rw (← lasts, no_record (read_record content) (sym e))
 
-    pub a_request : (x : Result Record Refusal) {r : Record} {rest : List ℕ} → Some r ≡ result_ok x
-        → record_said x ≡ record_in (read_record content) → rest ≡ remaining (read_record content) content
+    pub a_request : {r : Record} {rest : List ℕ} → record_is r ≡ record_in (read_record content)
+        → rest ≡ remaining (read_record content) content
         → some (record { content = r; budget = b }, rest) ≡ read_request source bytes
     unfolding read_request and_then
-    a_request (Ok x) {r} k e h =
-        let same : x ≡ r = cc in rw (← lasts, a_record content (read_record content) (sym e), h, same)
-    a_request (Err x) k e h = cc
+    a_request e h = rw (← lasts, a_record content (read_record content) (sym e), h)

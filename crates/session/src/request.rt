@@ -34,11 +34,16 @@ fn budget(source: BudgetSource, bytes: &[u8]) -> Option<(u32, &[u8])>
     Some((u32::from_le_bytes([*a, *b, *c, *d]), rest))
 }
 
-// The request that the bytes begin with, and the bytes after it. Where there is none, that is refusal 7.
+// The request that the bytes begin with, and the bytes after it. Where there is none, that is refusal 7. (No `?`: each
+// reading is taken apart with `let .. else`, a form that document 01 names.)
 pub fn read(source: BudgetSource, bytes: &[u8]) -> Option<(Request, &[u8])>
     ensures { requested result ≡ read_request (source_of source) bytes.now }
 {
-    let (budget, content) = budget(source, bytes)?;
-    let record = record::read(content).ok()?;
+    let Some((budget, content)) = budget(source, bytes) else {
+        return None;
+    };
+    let Ok(record) = record::read(content) else {
+        return None;
+    };
     Some((Request { record, budget }, record::rest(content)))
 }

@@ -7,10 +7,10 @@ use Rattle.operator.proofs.list.read.Goals as goal
 use Rattle.operator.proofs.list.read.Goals.{After-rest-left}
 
 -- bytes that aren't a record
-pub returns-in-Err : goal.returns-in-Err
-returns-in-Err c =
-    let said = sym c.in-Err.ensures in
-    list_breaks c.loop-left.invariant (not_empty _ c.loop-left-test.ensures) said (no_record _ said)
+pub returns-in_default : goal.returns-in_default
+returns-in_default c =
+    list_breaks c.loop-left.invariant (not_empty _ c.loop-left-test.ensures)
+    (no_record _ (sym c.in_default.ensures))
 
 -- a record was read, and left after it
 read : (c : After-rest-left) → read_record c.loop-left.left.now ≡ some (c.in-Ok.call, c.rest-left.result.now)
@@ -26,5 +26,5 @@ loop-left-preserved c =
     list_goes_on c.loop-left.invariant _ _ (read (goal.at.loop-left-preserved c).After-rest-left) c.add.ensures.held
     c.add.ensures.within c.add.ensures.end
 
-pub returns : goal.returns
-returns c = list_ends c.loop-left.invariant (is_empty _ c.loop-left-test.ensures)
+pub returns-after-loop-left : goal.returns-after-loop-left
+returns-after-loop-left c = list_ends c.loop-left.invariant (is_empty _ c.loop-left-test.ensures)
