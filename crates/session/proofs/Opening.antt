@@ -1,7 +1,7 @@
 -- Laws of the whole of a session: the plan is refused, or the requests are served from what initialize leaves, and the
 -- last lines printed.
 use Prim.Native.Nat.{ℕ, ◌+◌, ◌*◌, ◌≤◌}
-use mathlib.Core.Path.{◌≡◌, ◌∙◌}
+use mathlib.Core.Path.{◌≡◌}
 use Rattle.std.proofs.Common.{rules}
 use Rattle.std.specs.Prelude.{Result, Ok, Err, IsOk}
 use mathlib.Core.List.{List}
@@ -17,7 +17,7 @@ use Rattle.model.specs.Topology.{topology_refusal}
 use Rattle.model.specs.Layout.{store_cells}
 use Rattle.model.specs.State.{GlobalState}
 use Rattle.model.specs.Outcome.{refusal_number}
-use Rattle.model.specs.Start.{startup_or, initialize}
+use Rattle.model.specs.Start.{startup_or, initialize_refusal, initialize}
 use Rattle.model.specs.Program.{BudgetSource, given, input_bytes, plan_length, plan_refusal}
 use Rattle.model.specs.Program.{session_from, session_of, played_of, played}
 use Rattle.model.specs.Recover as recovery
@@ -36,13 +36,15 @@ use Rattle.session.specs.Serving.{Prints}
 
 -- initialize isn't refused
 module _ {T : Topology} {records store : List ℕ} (may : MayRun T records store) where
-  ready : (initialize T store).refusal ≡ none
-  unfolding initialize startup_or recovery.initialize_refusal first_refusal or_else
-  ready = rw (may.accepted, le-ltb (length store) store_cells may.cells)
+  pub starts : initialize_refusal T (length store) ≡ none
+  unfolding recovery.initialize_refusal first_refusal or_else
+  starts = rw (may.accepted, le-ltb (length store) store_cells may.cells)
 
-  pub starts : {left : List ℕ} (r : Result State Refusal) → Starts (initialize T store) r left → IsOk r
-  starts (Ok s) m = search rules
-  starts (Err e) m = let none_is : some (refusal_number e) ≡ none = m.start ∙ ready in cc
+  -- so the code's answer to it is a state
+  pub begins : {left : List ℕ} (r : Result State Refusal) → Starts (initialize T store) r left → IsOk r
+  unfolding initialize startup_or
+  begins (Ok s) m = search rules
+  begins (Err e) m = let none_is : some (refusal_number e) ≡ none = rw starts at m.start in cc
 
 -- what is played of a plan that passed: its parts one after the other
 module _ (source : BudgetSource) (T : Topology) (store records : List ℕ) {s : GlobalState} {started : List ℕ}

@@ -30,16 +30,17 @@ module _ (T : Topology) (cursor : Cursor) {before after : List ℕ} {r : ℕ} wh
   step_served x store budget m t =
       record { text = rw (← m.outcome, ← m.made) t; number = refl; state = m.state; store = m.store }
 
-  pub recover_served : (store : List ℕ) {s : State} → Starts (recover T store) (Ok s) store
-      → Appends line_bytes before cursor.at (said_line cursor.number (line s.round.line) 0) after r
-      → Serves cursor (served T cursor store 0 Recover) before after (next cursor r s) store
-  unfolding serve of_startup line_or recover_said state_or view
-  recover_served store m t =
-      rw (← m.start) (record { text = rw (← m.state) t; number = refl; state = m.state; store = m.store })
+  module _ (store : List ℕ) (budget : ℕ) where
+    pub recover_served : {s : State} → Starts (recover T store) (Ok s) store
+        → Appends line_bytes before cursor.at (said_line cursor.number (line s.round.line) 0) after r
+        → Serves cursor (served T cursor store budget Recover) before after (next cursor r s) store
+    unfolding serve of_startup line_or recover_said state_or view
+    recover_served m t =
+        rw (← m.start) (record { text = rw (← m.state) t; number = refl; state = m.state; store = m.store })
 
-  pub recover_refused : (store : List ℕ) {e : Refusal} → Starts (recover T store) (Err e) store
-      → Appends line_bytes before cursor.at (said_line cursor.number (refused (refusal_number e)) 0) after r
-      → Serves cursor (served T cursor store 0 Recover) before after (next cursor r cursor.state) store
-  unfolding serve of_startup line_or recover_said state_or
-  recover_refused store m t =
-      rw (← m.start) (record { text = t; number = refl; state = refl; store = m.store })
+    pub recover_refused : {e : Refusal} → Starts (recover T store) (Err e) store
+        → Appends line_bytes before cursor.at (said_line cursor.number (refused (refusal_number e)) 0) after r
+        → Serves cursor (served T cursor store budget Recover) before after (next cursor r cursor.state) store
+    unfolding serve of_startup line_or recover_said state_or
+    recover_refused m t =
+        rw (← m.start) (record { text = t; number = refl; state = refl; store = m.store })

@@ -50,41 +50,66 @@ module _ (source : BudgetSource) (T : Topology) (n : ℕ) (s : GlobalState) (sto
 
 -- What the rest of a session, of n bytes, prints at this place is what all of it, of n₀ bytes, prints from where it
 -- began.
-abbrev pub Leads : ℕ → Session → List ℕ → ℕ → ℕ → Session → List ℕ → Type 0
-Leads n here out at n₀ all out₀ =
+abbrev pub Leads : ℕ → Session → List ℕ → ℕ → ℕ → Session → List ℕ → ℕ → Type 0
+Leads n here out at n₀ all out₀ at₀ =
     (after : List ℕ) (r : ℕ) (s : GlobalState) (left : List ℕ) → Prints n here out at after r s left
-    → Prints n₀ all out₀ 0 after r s left
+    → Prints n₀ all out₀ at₀ after r s left
 
--- A place of a session with these bytes left, which are fewer by as many as the line's number is larger.
-pub record At (source : BudgetSource) (T : Topology) (n₀ : ℕ) (all : Session) (out₀ : List ℕ) (cursor : Cursor)
-    (store bytes out : List ℕ) : Type 0 where
-  pub lines : cursor.number + length bytes ≤ input_bytes + 1
-  pub are_bytes : AreBytes bytes
-  pub leads : Leads (length bytes) (session_from source T cursor.number (view cursor.state) store bytes) out cursor.at
-      n₀ all out₀
-
-module _ {source : BudgetSource} {T : Topology} {n₀ : ℕ} {all : Session} {out₀ : List ℕ} {cursor : Cursor}
-    {store bytes out : List ℕ} (p : At source T n₀ all out₀ cursor store bytes out) where
+module _ (source : BudgetSource) (T : Topology) (cursor : Cursor) (store bytes : List ℕ) {out : List ℕ} {n₀ : ℕ}
+    {all : Session} {out₀ : List ℕ} {at₀ : ℕ}
+    (leads :
+    Leads (length bytes) (session_from source T cursor.number (view cursor.state) store bytes) out cursor.at
+    n₀ all out₀ at₀) where
   abbrev n : ℕ
   n = cursor.number
 
   abbrev s : GlobalState
   s = view cursor.state
 
-  pub ends : length bytes ≤ 0 → Prints n₀ all out₀ 0 out cursor.at s store
+  pub leads_to_end : length bytes ≤ 0 → Prints n₀ all out₀ at₀ out cursor.at s store
   unfolding lines_text
-  ends l =
-      p.leads out cursor.at s store
+  leads_to_end l =
+      leads out cursor.at s store
       (rw (ended source T n s store bytes l)
       (record { text = at_most (nothing out cursor.at) (omega arith); state = refl; store = refl }))
 
-  pub breaks : {after : List ℕ} {r : ℕ} → 0 < length bytes → none ≡ read_request source bytes
-      → Appends line_bytes out cursor.at (said_line n (refused 7) 0) after r → Prints n₀ all out₀ 0 after r s store
+  pub leads_to_break : {after : List ℕ} {r : ℕ} → 0 < length bytes → read_request source bytes ≡ none
+      → Appends line_bytes out cursor.at (said_line n (refused 7) 0) after r → Prints n₀ all out₀ at₀ after r s store
   unfolding lines_text broken_line
-  breaks {after} {r} l e t =
-      p.leads after r s store
-      (rw (broken source T n s store bytes l (sym e))
+  leads_to_break {after} {r} l e t =
+      leads after r s store
+      (rw (broken source T n s store bytes l e)
       (record { text = rw append-nil (at_most t (omega arith)); state = refl; store = refl }))
+
+  pub leads_on : {out' : List ℕ} {next : Cursor} {store' : List ℕ} (q : Request) (after : List ℕ) → AreBytes bytes
+      → read_request source bytes ≡ some (q, after)
+      → Serves cursor (served T cursor store q.budget q.content) out out' next store'
+      → Leads (length after) (session_from source T next.number (view next.state) store' after) out' next.at
+      n₀ all out₀ at₀
+  unfolding lines_text line_then
+  leads_on q after h e x a r u left p =
+      let shorter = fewer (request_after source bytes h q after e) in
+      leads a r u left
+      (rw (more source T n s store bytes q after h e, ← x.number, ← x.state, ← x.store)
+      (record { text = at_most (x.text then p.text) (omega arith); state = p.state; store = p.store }))
+
+-- A place of a session with these bytes left, which are fewer by as many as the line's number is larger.
+pub record At (source : BudgetSource) (T : Topology) (n₀ : ℕ) (all : Session) (out₀ : List ℕ) (at₀ : ℕ)
+    (cursor : Cursor) (store bytes out : List ℕ) : Type 0 where
+  pub lines : cursor.number + length bytes ≤ input_bytes + 1
+  pub are_bytes : AreBytes bytes
+  pub leads : Leads (length bytes) (session_from source T cursor.number (view cursor.state) store bytes) out cursor.at
+      n₀ all out₀ at₀
+
+module _ {source : BudgetSource} {T : Topology} {n₀ : ℕ} {all : Session} {out₀ : List ℕ} {at₀ : ℕ} {cursor : Cursor}
+    {store bytes out : List ℕ} (p : At source T n₀ all out₀ at₀ cursor store bytes out) where
+  pub ends : length bytes ≤ 0 → Prints n₀ all out₀ at₀ out cursor.at (view cursor.state) store
+  ends l = leads_to_end source T cursor store bytes p.leads l
+
+  pub breaks : {after : List ℕ} {r : ℕ} → 0 < length bytes → none ≡ read_request source bytes
+      → Appends line_bytes out cursor.at (said_line cursor.number (refused 7) 0) after r
+      → Prints n₀ all out₀ at₀ after r (view cursor.state) store
+  breaks l e t = leads_to_break source T cursor store bytes p.leads l (sym e) t
 
   module _ {q : Request} {after : List ℕ} (e : some (q, after) ≡ read_request source bytes) where
     read : After bytes after
@@ -95,15 +120,10 @@ module _ {source : BudgetSource} {T : Topology} {n₀ : ℕ} {all : Session} {ou
 
     pub goes_on : {out' : List ℕ} {next : Cursor} {store' : List ℕ}
         → Serves cursor (served T cursor store q.budget q.content) out out' next store'
-        → At source T n₀ all out₀ next store' after out'
-    unfolding lines_text line_then
+        → At source T n₀ all out₀ at₀ next store' after out'
     goes_on x =
         record {
           lines = omega (arith, p.lines, fewer read, x.number);
           are_bytes = bytes_after read p.are_bytes;
-          leads = λ a r u left h.
-              let shorter = fewer read in
-              p.leads a r u left
-              (rw (more source T n s store bytes q after p.are_bytes (sym e), ← x.number, ← x.state, ← x.store)
-              (record { text = at_most (x.text then h.text) (omega arith); state = h.state; store = h.store }));
+          leads = leads_on source T cursor store bytes p.leads q after p.are_bytes (sym e) x;
         }

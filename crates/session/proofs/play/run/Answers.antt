@@ -1,8 +1,8 @@
-use Rattle.session.proofs.Opening.{starts, plays_through}
+use Rattle.session.proofs.Opening.{begins, plays_through}
 use Rattle.session.proofs.play.run.Goals as goal
 
 pub unwrap-state-requires : goal.unwrap-state-requires
-unwrap-state-requires c = starts c.requires c.initialize.result c.initialize.ensures
+unwrap-state-requires c = begins c.requires c.initialize.result c.initialize.ensures
 
 pub returns : goal.returns
 returns c =

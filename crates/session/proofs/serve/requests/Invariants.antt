@@ -10,7 +10,7 @@ invariant-loop-left l =
     let source = source_of l.source in
     let begun = view l.initial.cursor.state in
     At source l.topology (length l.bytes) (session_from source l.topology 1 begun l.initial.store l.bytes)
-    l.initial.out l.cursor l.store l.left l.out
+    l.initial.out 0 l.cursor l.store l.left l.out
 
 abbrev pub decreases-loop-left : goal.decreases-loop-left
 decreases-loop-left l = length l.left
