@@ -1,17 +1,15 @@
 -- Laws of the texts that are written: a number's digits before its last, how many it has, and numbers one after the
 -- other.
 use Prim.Native.Nat.{ℕ, zero, suc, ◌+◌, ◌/◌, ◌%◌, ◌^◌, ◌<◌, ◌≤◌}
-use mathlib.Core.Path.{◌≡◌, refl, sym, ◌∙◌}
+use mathlib.Core.Path.{◌≡◌, refl, ◌∙◌}
 use mathlib.Core.List.{List, [], ◌∷◌, ◌++◌, append_assoc, append-nil}
 use native.Mathlib.Omega.{arith}
-use lib.ListN.{length, get_or, take}
+use lib.ListN.{length, get_or, take, length-append}
 use lib.Seq.{take-suc}
 use native.Mathlib.Numerals.{add-one}
 use lib.Dec.{ltb}
 use borrow.Author.Tests.{lt-ltb, le-ltb, ltb-false}
 use Rattle.model.proofs.laws.Tests.{Tested, test, holds, fails}
-use Rattle.std.proofs.lemmas.Fmt.{decimal_by_steps, length-decimal-le}
-use Rattle.std.specs.Fmt as std
 use Rattle.report.specs.Text.{chars, digit, digits, decimal, values}
 
 -- more fuel than the number has digits changes nothing
@@ -34,16 +32,22 @@ pub decimal_more : (n : ℕ) → 10 ≤ n → decimal n ≡ decimal (n / 10) ++ 
 unfolding decimal digits
 decimal_more n l = rw (le-ltb n 10 l, digits_fuel n (suc (n / 10)) (n / 10) (omega arith) (omega arith))
 
--- what the library prints of a number, and how many digits that are at most below a power of 10
-pub decimal_is : (n : ℕ) → n < 2 ^ 64 → std.decimal n ≡ decimal n
-decimal_is n l =
-    decimal_by_steps (λ n ds. ds ≡ decimal n)
-    (λ n l. let e : n % 10 ≡ n = omega arith in rw (decimal_one n l, e))
-    (λ n ds l e. rw e (sym (decimal_more n l)))
-    n l
+-- at most k + 1 digits below 10^(k + 1)
+digits_length : (f k n : ℕ) → n < 10 ^ suc k → length (digits f n) ≤ suc k
+unfolding digits
+digits_length zero k n l = omega arith
+digits_length (suc f) k n l = go k l (test (ltb n 10)) (λ j h. digits_length f j (n / 10) h)
+  where
+    go : (k : ℕ) → n < 10 ^ suc k → Tested (ltb n 10)
+        → ((j : ℕ) → n / 10 < 10 ^ suc j → length (digits f (n / 10)) ≤ suc j) → length (digits (suc f) n) ≤ suc k
+    go k l (holds e) fewer = rw e (omega arith)
+    go zero l (fails e) fewer = absurd (omega (arith, ltb-false n 10 e))
+    go (suc k) l (fails e) fewer =
+        rw (e, length-append (digits f (n / 10)) (digit (n % 10))) (omega (arith, fewer k (omega arith)))
 
-pub decimal_length : (k n : ℕ) → 0 < k → n < 10 ^ k → n < 2 ^ 64 → length (decimal n) ≤ k
-decimal_length k n p l h = rw (← decimal_is n h) (length-decimal-le k n p l h)
+pub decimal_length : (k n : ℕ) → n < 10 ^ suc k → length (decimal n) ≤ suc k
+unfolding decimal
+decimal_length k n l = digits_length (suc n) k n l
 
 -- numbers, each after a space: one, and some after others
 pub values_one : (n : ℕ) → values (n ∷ []) ≡ chars " " ++ decimal n

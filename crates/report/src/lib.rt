@@ -56,12 +56,12 @@ fn each<F: Fn(&mut [u8], usize, usize) -> usize>(
     next
 }
 
-// A number in decimal.
+// A number in decimal. (By hand, so that no crate of the kit has to be trusted for its digits.)
 pub fn decimal(out: &mut [u8], at: usize, n: u32) -> usize
     ensures { Appends number_bytes out.old at (decimal n) out.new result }
 {
-    let mut digits = itoa::Buffer::new();
-    bytes(out, at, digits.format(n).as_bytes())
+    let next = if n < 10 { at } else { decimal(out, at, n / 10) };
+    bytes(out, next, &[b'0' + (n % 10) as u8])
 }
 
 // A space and a number.

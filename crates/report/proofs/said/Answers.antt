@@ -25,7 +25,7 @@ pub returns-in-Refused : goal.returns-in-Refused
 unfolding said_name said_values said_text
 returns-in-Refused c =
     let number = c.number.type_inv in
-    let short = decimal_length 3 c.number.result (omega arith) (omega arith) (omega arith) in
+    let short = decimal_length 2 c.number.result (omega arith) in
     rw (c.in-Refused.is, ← c.number.ensures) (of_length c.told-in-Refused.ensures (rw values_one (omega arith)))
 
 pub returns-in-PowerLost : goal.returns-in-PowerLost
