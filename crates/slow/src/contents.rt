@@ -134,7 +134,7 @@ pub fn channel(
     let q = look::at(&topology.to, c, 0);
     let received = feed::number_on(past, histories, q, false, c, histories.counts[q as usize]);
     let total = feed::number_on(past, histories, p, true, c, histories.counts[p as usize]);
-    let split = split(marker, received, total, told::behind(past, c));
+    let split = split(marker, received, total, told::behind(&past, c));
     let ahead = fill(empty(), past, histories, p, c, turned, received, split);
     let with_marker = push(ahead, marker, 2, 0);
     fill(with_marker, past, histories, p, c, turned, split, total)

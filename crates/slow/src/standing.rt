@@ -30,15 +30,16 @@ fn table<T: Copy, const N: usize, F: Fn(u8) -> T>(mut cells: [T; N], n: u8, f: F
 
 // What is under way on channel c, with its marker: t is the tag of processes without a mark.
 #[tactic(auto, using(crate::proofs::Feeding::ends_fit, crate::proofs::Standings::channel_is))]
-fn held(topology: Topology, past: Past, histories: Histories, t: bool, c: u8) -> Channel
-    requires ready { Ready topology past }
-    requires fed { FedBy topology past histories }
-    requires tag { t ≡ turned (past_of past) }
+fn held(topology: Topology, past: &Past, histories: &Histories, t: bool, c: u8) -> Channel
+    requires ready { Ready topology past.now }
+    requires fed { FedBy topology past.now histories.now }
+    requires tag { t ≡ turned (past_of past.now) }
     requires planned { c < topology.channels }
-    ensures { entries result ≡ channel_by topology (past_of past) (history_of topology (past_of past)) c }
+    ensures { entries result
+        ≡ channel_by topology (past_of past.now) (history_of topology (past_of past.now)) c }
 {
     let marker = told::marker_sent(past, c) & !told::closed(past, c);
-    contents::channel(topology, past, histories, t, marker, c)
+    contents::channel(topology, *past, *histories, t, marker, c)
 }
 
 // (By names: an array isn't moved from a field into a literal.)
@@ -58,9 +59,9 @@ fn flags(topology: Topology, past: Past, histories: Histories) -> Flags
 {
     let (n, m) = (topology.processes, topology.channels);
     let logical = table([false; PROCESSES], n, |p| histories::marked(histories, p));
-    let saved = table([false; PROCESSES], n, |p| told::saved(topology, past, p));
-    let closed = table([false; CHANNELS], m, |c| told::closed(past, c));
-    let sent = table([false; CHANNELS], m, |c| told::marker_sent(past, c));
+    let saved = table([false; PROCESSES], n, |p| told::saved(topology, &past, p));
+    let closed = table([false; CHANNELS], m, |c| told::closed(&past, c));
+    let sent = table([false; CHANNELS], m, |c| told::marker_sent(&past, c));
     Flags {
         logical,
         saved,
@@ -79,9 +80,9 @@ fn counts(topology: Topology, past: Past) -> Counts
     let messages = table(
         [0; PROCESSES],
         n,
-        |p| told::messages(topology, past, p) as u8,
+        |p| told::messages(topology, &past, p) as u8,
     );
-    let channels = table([0; CHANNELS], m, |c| told::logged(past, c) as u8);
+    let channels = table([0; CHANNELS], m, |c| told::logged(&past, c) as u8);
     Counts { messages, channels }
 }
 
@@ -105,7 +106,7 @@ pub fn of(topology: Topology, past: Past) -> State
     let held = table(
         [nothing; CHANNELS],
         m,
-        |c| held(topology, past, histories, turned, c),
+        |c| held(topology, &past, &histories, turned, c),
     );
     let places = table([places(nothing); CHANNELS], m, |c| places(held[c as usize]));
     let lengths = table([0; CHANNELS], m, |c| held[c as usize].count);

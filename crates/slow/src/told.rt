@@ -20,34 +20,34 @@ fn this_round(past: &Past) -> &[Deed]
 }
 
 // Whether the channel is closed: a marker was received on it in this round.
-pub fn closed(past: Past, channel: u8) -> bool
-    ensures { result ≡ closed_in channel (past_of past) }
+pub fn closed(past: &Past, channel: u8) -> bool
+    ensures { result ≡ closed_in channel (past_of past.now) }
 {
-    this_round(&past)
+    this_round(past)
         .iter()
         .any(|d| tests::receives_marker(*d, channel))
 }
 
 // Whether its marker was sent in this round.
-pub fn marker_sent(past: Past, channel: u8) -> bool
-    ensures { result ≡ marker_sent channel (past_of past) }
+pub fn marker_sent(past: &Past, channel: u8) -> bool
+    ensures { result ≡ marker_sent channel (past_of past.now) }
 {
-    this_round(&past)
+    this_round(past)
         .iter()
         .any(|d| tests::on_channel(*d, 6, channel))
 }
 
 // Whether a late process has its physical checkpoint in this round.
-pub fn saved(topology: Topology, past: Past, process: u8) -> bool
-    ensures { result ≡ saved_in topology process (past_of past) }
+pub fn saved(topology: Topology, past: &Past, process: u8) -> bool
+    ensures { result ≡ saved_in topology process (past_of past.now) }
 {
-    let copied = this_round(&past).iter().any(|d| tests::copies(*d, process));
+    let copied = this_round(past).iter().any(|d| tests::copies(*d, process));
     look::late(topology.late, process) & copied
 }
 
 // How many messages were sent on a channel since its marker.
-pub fn behind(past: Past, channel: u8) -> u16
-    ensures { result ≡ behind channel (past_of past) }
+pub fn behind(past: &Past, channel: u8) -> u16
+    ensures { result ≡ behind channel (past_of past.now) }
 {
     past.since(|d| tests::on_channel(d, 6, channel))
         .iter()
@@ -65,20 +65,20 @@ fn since_clear(past: &Past) -> &[Deed]
 }
 
 // How many entries a channel's log has: receives on it that made the writes of such a log, 2, or of both.
-pub fn logged(past: Past, channel: u8) -> u16
-    ensures { result ≡ channel_logged channel (past_of past) }
+pub fn logged(past: &Past, channel: u8) -> u16
+    ensures { result ≡ channel_logged channel (past_of past.now) }
 {
-    since_clear(&past)
+    since_clear(past)
         .iter()
         .filter(|d| tests::logs(**d, 2) && d.channel == channel)
         .count() as u16
 }
 
 // And a process's message log: 3, or those of both.
-pub fn messages(topology: Topology, past: Past, process: u8) -> u16
-    ensures { result ≡ messages_logged topology process (past_of past) }
+pub fn messages(topology: Topology, past: &Past, process: u8) -> u16
+    ensures { result ≡ messages_logged topology process (past_of past.now) }
 {
-    since_clear(&past)
+    since_clear(past)
         .iter()
         .filter(|d| tests::logs(**d, 3) && look::at(&topology.to, d.channel, 0) == process)
         .count() as u16

@@ -13,6 +13,6 @@ channel-requires c =
     record {
       from = ends.0;
       to = ends.1;
-      fits = rw (channel_is a.topology (past_of a.past) a.c _ a.t _ marker r.tag r.fed.seen)
+      fits = rw (channel_is a.topology (past_of a.past.now) a.c _ a.t _ marker r.tag r.fed.seen)
           (r.ready.small.room a.c r.planned);
     }
