@@ -1,23 +1,24 @@
 -- Laws of the state that is worked out: its arrays, place by place, and what each place holds.
 use Prim.Native.Nat.{ℕ, ◌<◌, ◌≤◌}
-use mathlib.Core.Path.{◌≡◌, refl, ap, fun_ext, ◌∙◌}
-use mathlib.Core.Bool.{Bool, true, false, not, beq}
+use mathlib.Core.Path.{◌≡◌, refl, ap, ap₂, fun_ext, ◌∙◌}
+use mathlib.Core.Bool.{Bool, true, false, not, ◌&&◌, beq}
 use mathlib.Core.List.{List, []}
 use lib.ListN.{get_or, replicate}
 use lib.Dec.{ltb}
-use borrow.Author.Tests.{ltb-true, ltb-false}
+use borrow.Author.Tests.{ltb-true, ltb-false, lt-ltb}
 use Rattle.model.specs.declared.Topology.{Topology}
 use Rattle.model.specs.declared.Places.{Places}
 use Rattle.model.specs.declared.Entry.{Entry}
 use Rattle.model.specs.Notation.{tabulate}
 use Rattle.model.specs.Channel.{entries}
-use Rattle.model.specs.State.{entries_in}
+use Rattle.model.specs.declared.Flags.{Flags}
+use Rattle.model.specs.State.{entries_in, Progress, view_progress}
 use Rattle.model.specs.History.{History}
 use Rattle.model.proofs.laws.Tests.{Tested, holds, fails, test}
 use Rattle.model.proofs.laws.Functions.{seen_replicate}
 use Rattle.account.specs.declared.Deed.{Deed}
 use Rattle.account.specs.Round.{turned}
-use Rattle.account.specs.Standing.{within}
+use Rattle.account.specs.Standing.{within, state_of, state_from}
 use Rattle.account.specs.Contents.{history_of, holds_marker, behind, under_way, channel_by, has_mark, turned_by}
 use Rattle.std.proofs.Common.{Option, None, Some}
 use Rattle.std.specs.Option.{is_some}
@@ -56,6 +57,16 @@ tag_is true true = refl
 tag_is true false = refl
 tag_is false true = refl
 tag_is false false = refl
+
+-- whether a marker is on a channel, by the flags that tell of it
+pub marker_is : (T : Topology) (ds : List Deed) (c : ℕ) → c < T.channels → (f : Flags)
+    → view_progress f ≡ (state_of T ds).progress → {sent closed : Bool} → sent ≡ get_or f.sent c false
+    → closed ≡ get_or f.closed c false → sent && not closed ≡ holds_marker c ds
+unfolding view_progress state_of state_from
+marker_is T ds c l f e a b =
+    let planned : ltb c T.channels ≡ true = lt-ltb c T.channels l in
+    ap₂ (λ (x y : Bool). x && not y) (a ∙ ap (λ (x : Progress). x.sent c) e ∙ rw planned)
+    (b ∙ ap (λ (x : Progress). x.closed c) e ∙ rw planned)
 
 pub channel_is : (T : Topology) (ds : List Deed) (c : ℕ) (x t : Bool) (h : History) → x ≡ holds_marker c ds
     → t ≡ turned ds → h ≡ history_of T ds

@@ -12,7 +12,7 @@ ghost use Rattle.slow.specs.Parts.{Ready};
 
 use crate::deeds::Past;
 use crate::events::Histories;
-use crate::{contents, feed, histories, round, told};
+use crate::{contents, feed, histories, look, round, told};
 use model::{CHANNELS, Channel, Counts, Flags, PROCESSES, Places, Round, State, Topology};
 
 // The cells with what f tells of each of the first n in them.
@@ -28,18 +28,27 @@ fn table<T: Copy, const N: usize, F: Fn(u8) -> T>(mut cells: [T; N], n: u8, f: F
     cells
 }
 
-// What is under way on channel c, with its marker: t is the tag of processes without a mark.
+// What is under way on channel c, with its marker, which the flags tell: t is the tag of processes without a mark.
 #[tactic(auto, using(crate::proofs::Feeding::ends_fit, crate::proofs::Standings::channel_is))]
-fn held(topology: Topology, past: &Past, histories: &Histories, t: bool, c: u8) -> Channel
+fn held(
+    topology: Topology,
+    past: &Past,
+    histories: &Histories,
+    flags: &Flags,
+    t: bool,
+    c: u8,
+) -> Channel
     requires ready { Ready topology past.now }
     requires fed { FedBy topology past.now histories.now }
+    requires flags { view_progress flags.now ≡ (state_of topology (past_of past.now)).progress }
     requires tag { t ≡ turned (past_of past.now) }
     requires planned { c < topology.channels }
     ensures { entries result
         ≡ channel_by topology (past_of past.now) (history_of topology (past_of past.now)) c }
 {
-    let marker = told::marker_sent(past, c) & !told::closed(past, c);
-    contents::channel(topology, *past, *histories, t, marker, c)
+    let sent = look::at(&flags.sent, c, false);
+    let closed = look::at(&flags.closed, c, false);
+    contents::channel(topology, *past, *histories, t, sent & !closed, c)
 }
 
 // (By names: an array isn't moved from a field into a literal.)
@@ -102,11 +111,12 @@ pub fn of(topology: Topology, past: Past) -> State
         n,
         |p| turned != histories::marked(histories, p),
     );
+    let flags = flags(topology, past, histories);
     let nothing = contents::empty();
     let held = table(
         [nothing; CHANNELS],
         m,
-        |c| held(topology, &past, &histories, turned, c),
+        |c| held(topology, &past, &histories, &flags, turned, c),
     );
     let places = table([places(nothing); CHANNELS], m, |c| places(held[c as usize]));
     let lengths = table([0; CHANNELS], m, |c| held[c as usize].count);
@@ -120,7 +130,7 @@ pub fn of(topology: Topology, past: Past) -> State
         tags,
         places,
         lengths,
-        flags: flags(topology, past, histories),
+        flags,
         counts: counts(topology, past),
     }
 }

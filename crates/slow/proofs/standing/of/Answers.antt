@@ -52,6 +52,6 @@ returns c =
           let told : entries x ≡ channel_by T ds (history_of T ds) i = search rules in
           rw (places, lengths) told)
           (c.table-lengths.ensures.other 0) j;
-      progress = c.flags.ensures j;
+      progress = c.flags-flags.ensures j;
       counts = c.counts.ensures j;
     }
